@@ -1,0 +1,112 @@
+-- Laws of `over`: a loop that lays a list over the start of lent memory, piece by piece. Assumes nothing.
+use mathlib.Core.Path.{_≡_, refl, sym, ap, _∙_}
+use mathlib.Core.List.{List, [], _∷_, _++_, append-assoc, append-nil}
+use Prim.Native.Nat.{ℕ, suc, _+_, _-_, _≤_, _<_}
+use native.Mathlib.Omega.{arith}
+use lib.ListN.{replicate, length-replicate, set, getD, length, take, drop, length-append, length-take, length-drop, drop-of-length-le}
+use lib.Seq.{append-snoc, take-length, drop-cons, set-at, take-at, drop-at, take-add, drop-drop, length-take-le, take-all}
+use borrow.Rule.Slice.PartMut.{putMid}
+use Rattle.lent.specs.Memory.{over}
+
+pub length-over : (new old : List ℕ) → length new ≤ length old → length (over new old) ≡ length old
+unfolding over
+length-over new old h = simp (length-append, length-drop) (omega arith)
+
+pub over-none : (old : List ℕ) → old ≡ over [] old
+unfolding over
+over-none old = refl
+
+-- a list laid over memory that is no longer than it
+pub over-full : (new old : List ℕ) → length old ≤ length new → over new old ≡ new
+unfolding over
+over-full new old h = rw (drop-of-length-le old {i = length new} h, append-nil)
+
+-- one piece more, written through the part from a to e of the memory
+pub over-more : (new piece old : List ℕ) (a e : ℕ) → length new ≡ a → e ≡ a + length piece → e ≤ length old
+    → putMid a (e - a) (over new old) piece ≡ over (new ++ piece) old
+unfolding over
+over-more new piece old a e n p h =
+    let size : e - a ≡ length piece = omega arith in
+    let both : length (new ++ piece) ≡ a + length piece = omega (arith, length-append new piece) in
+    rw (take-at new (drop (length new) old) a n, drop-at new (drop (length new) old) a n, size, n, drop-drop (length piece) a old, both, append-assoc)
+
+-- one byte more
+pub over-set : (new old : List ℕ) (k v : ℕ) → length new ≡ k → k < length old → set (over new old) k v ≡ over (new ++ (v ∷ [])) old
+unfolding over
+over-set new old k v n h =
+    let one-more : length (new ++ (v ∷ [])) ≡ suc k = omega (arith, length-append new (v ∷ [])) in
+    rw (n, one-more, drop-cons old k 0 h, set-at new (getD old k 0) (drop (suc k) old) v k n) (sym (append-snoc new v (drop (suc k) old)))
+
+-- the tail of what was laid over, written anew: the first a bytes stay
+pub over-again : (new tail tail′ old : List ℕ) (a e : ℕ) → length new ≡ a → e ≡ a + length tail → length tail′ ≡ length tail → e ≤ length old
+    → putMid a (e - a) (over (new ++ tail′) old) tail ≡ over (new ++ tail) old
+unfolding over
+over-again new tail tail′ old a e n t t′ h =
+    let size : e - a ≡ length tail = omega arith in
+    let both : length (new ++ tail) ≡ a + length tail = omega (arith, length-append new tail) in
+    let both′ : length (new ++ tail′) ≡ a + length tail = omega (arith, length-append new tail′) in
+    rw (
+      both′,
+      both,
+      size,
+      append-assoc,
+      take-at new (tail′ ++ drop (a + length tail) old) a n,
+      drop-at new (tail′ ++ drop (a + length tail) old) a n,
+      drop-at tail′ (drop (a + length tail) old) (length tail) t′,
+    )
+    (sym (append-assoc new tail (drop (a + length tail) old)))
+
+-- The first `at` bytes are new's, the others what they were: a loop on its way, for a list whose pieces come in the order of the wire.
+unfoldable pub upto : ℕ → List ℕ → List ℕ → List ℕ
+upto at new old = take at new ++ drop at old
+
+pub upto-none : (new old : List ℕ) → old ≡ upto 0 new old
+unfolding upto
+upto-none new old = refl
+
+-- where new is as long as the memory, the memory is new at the end
+pub upto-full : (new old : List ℕ) (at : ℕ) → length new ≡ at → length old ≤ at → upto at new old ≡ new
+unfolding upto
+upto-full new old at e h = rw (take-all at new (omega arith), drop-of-length-le old {i = at} h, append-nil)
+
+pub length-upto : (new old : List ℕ) (at : ℕ) → at ≤ length new → at ≤ length old → length (upto at new old) ≡ length old
+unfolding upto
+length-upto new old at h k = simp (length-append, length-take, length-drop) (omega arith)
+
+-- what is left of new after its next piece
+pub rest : (new piece left : List ℕ) (at n : ℕ) → length piece ≡ n → drop at new ≡ piece ++ left → drop (at + n) new ≡ left
+rest new piece left at n e h = sym (drop-drop n at new) ∙ ap (λ (l : List ℕ). drop n l) h ∙ drop-at piece left n e
+
+-- the next piece of new, written through the part from `at` to `to` of the memory
+pub upto-more : (new old piece left : List ℕ) (at to n : ℕ) → length piece ≡ n → to ≡ at + n → at ≤ length new → to ≤ length old → drop at new ≡ piece ++ left
+    → putMid at (to - at) (upto at new old) piece ≡ upto to new old
+unfolding upto
+upto-more new old piece left at to n e t hn ho h =
+    let front : length (take at new) ≡ at = length-take-le at new hn in
+    let size : to - at ≡ n = omega arith in
+    let longer : take (at + n) new ≡ take at new ++ piece =
+    take-add at n new ∙ ap (λ (x : List ℕ). take at new ++ x) (ap (λ (x : List ℕ). take n x) h ∙ take-at piece left n e) in
+    rw (take-at (take at new) (drop at old) at front, drop-at (take at new) (drop at old) at front, size, drop-drop n at old, t, longer, append-assoc)
+
+-- a part that was filled, by its length
+pub filled : (after part : List ℕ) (v n : ℕ) → after ≡ replicate (length part) v → length after ≡ n → after ≡ replicate n v
+filled after part v n e h = e ∙ ap (λ (m : ℕ). replicate m v) (sym (ap length e ∙ length-replicate (length part) v) ∙ h)
+
+-- a whole part that was copied over
+pub copied : (from part after : List ℕ) → length part ≡ length from → after ≡ take (length from) from ++ drop (length from) part → after ≡ from
+copied from part after h e = e ∙ rw (take-length, drop-of-length-le part {i = length from} (omega arith), append-nil)
+
+-- two bytes after the copy of d, in a part that has room for just these
+pub two-more : (d part : List ℕ) (x y : ℕ) → length part ≡ length d + 2
+    → set (set (take (length d) d ++ drop (length d) part) (length d) x) (length d + 1) y ≡ d ++ (x ∷ y ∷ [])
+two-more d part x y e =
+    let h : length d < length part = omega arith in
+    let k : suc (length d) < length part = omega arith in
+    let none : drop (suc (suc (length d))) part ≡ [] = drop-of-length-le part {i = suc (suc (length d))} (omega arith) in
+    let two : drop (length d) part ≡ getD part (length d) 0 ∷ getD part (suc (length d)) 0 ∷ [] =
+    drop-cons part (length d) 0 h
+    ∙ ap (λ (l : List ℕ). getD part (length d) 0 ∷ l) (drop-cons part (suc (length d)) 0 k ∙ ap (λ (l : List ℕ). getD part (suc (length d)) 0 ∷ l) none) in
+    let one-more : length (d ++ (x ∷ [])) ≡ length d + 1 = length-append d (x ∷ []) in
+    rw (take-length, two, set-at d (getD part (length d) 0) (getD part (suc (length d)) 0 ∷ []) x (length d) refl)
+    (rw (← append-snoc d x (getD part (suc (length d)) 0 ∷ []))
+    (set-at (d ++ (x ∷ [])) (getD part (suc (length d)) 0) [] y (length d + 1) one-more ∙ append-snoc d x (y ∷ [])))

@@ -1,0 +1,11 @@
+pub mod Xor
+pub mod Linear
+pub mod Polynomial
+pub mod Rule
+pub mod Byte
+pub mod Burst
+pub mod Mask
+pub mod Group
+pub mod Noise
+pub mod Sharp
+pub mod Determined
