@@ -89,8 +89,8 @@ upto-more new old piece left at to n e t hn ho h =
     rw (take-at (take at new) (drop at old) at front, drop-at (take at new) (drop at old) at front, size, drop-drop n at old, t, longer, append-assoc)
 
 -- a part that was filled, by its length
-pub filled : (after part : List ℕ) (v n : ℕ) → after ≡ replicate (length part) v → length after ≡ n → after ≡ replicate n v
-filled after part v n e h = e ∙ ap (λ (m : ℕ). replicate m v) (sym (ap length e ∙ length-replicate (length part) v) ∙ h)
+pub filled : (after : List ℕ) (v m n : ℕ) → after ≡ replicate m v → length after ≡ n → after ≡ replicate n v
+filled after v m n e h = e ∙ ap (λ (k : ℕ). replicate k v) (sym (ap length e ∙ length-replicate m v) ∙ h)
 
 -- a whole part that was copied over
 pub copied : (from part after : List ℕ) → length part ≡ length from → after ≡ take (length from) from ++ drop (length from) part → after ≡ from

@@ -1,0 +1,54 @@
+-- The data groups of a write: how long they are, and one by one. Assumes nothing.
+use mathlib.Core.Path.{_≡_, refl, sym, ap, _∙_}
+use mathlib.Core.List.{List, _++_}
+use Prim.Native.Nat.{ℕ, zero, suc, _+_, _*_, _-_, _≤_, _<_, _/_, _%_}
+use native.Mathlib.Omega.{arith}
+use lib.ListN.{length, take, drop, set, length-append, length-take, length-drop}
+use borrow.Rule.Slice.PartMut.{putMid}
+use Rattle.lent.proofs.Over.{two-more, upto, length-upto, upto-more, rest}
+use Rattle.pec.specs.Register.{pecOf}
+use Rattle.pec.specs.Group.{twoBytes, withPec}
+use Rattle.pec.proofs.Group.{length-withPec}
+use Rattle.frames.specs.Places.{six}
+use Rattle.frames.specs.Frame.{writeGroups}
+
+-- the copy of d and the two stores behind it are the group
+pub group-put : (d part copy : List ℕ) (at word : ℕ) → length part ≡ length d + 2 → at ≡ length d → copy ≡ take (length d) d ++ drop (length d) part → word ≡ pecOf d
+    → set (set copy at (word / 256)) (at + 1) (word % 256) ≡ withPec d
+unfolding withPec twoBytes
+group-put d part copy at word h ea ec ew = rw (ea, ec, ew) (two-more d part (pecOf d / 256) (pecOf d % 256) h)
+
+pub length-six : (k : ℕ) (bytes : List ℕ) → 6 * k + 6 ≤ length bytes → length (six k bytes) ≡ 6
+unfolding six
+length-six k bytes h = simp (length-take, length-drop) (omega arith)
+
+pub length-writeGroups : (k : ℕ) (bytes : List ℕ) → 6 * k ≤ length bytes → length (writeGroups k bytes) ≡ 8 * k
+unfolding writeGroups
+length-writeGroups zero bytes h = refl
+length-writeGroups (suc k) bytes h =
+    length-append (withPec (six k bytes)) (writeGroups k bytes)
+    ∙ omega (arith, length-withPec (six k bytes), length-six k bytes (omega arith), length-writeGroups k bytes (omega arith))
+
+writeGroups-step : (k : ℕ) (bytes : List ℕ) → 0 < k → writeGroups k bytes ≡ withPec (six (k - 1) bytes) ++ writeGroups (k - 1) bytes
+unfolding writeGroups
+writeGroups-step zero bytes h = absurd (omega arith)
+writeGroups-step (suc k) bytes h = let e : suc k - 1 ≡ k = omega arith in rw e
+
+-- one turn of the loop that lays them into a part: device k's group, and then those of the devices below it
+pub turn : (n k at : ℕ) (bytes old part group : List ℕ) → 0 < k → k ≤ n → at + 8 * k ≡ 8 * n → length bytes ≡ 6 * n → 8 * n ≤ length old
+    → part ≡ upto at (writeGroups n bytes) old → drop at (writeGroups n bytes) ≡ writeGroups k bytes
+    → group ≡ withPec (take (6 * (k - 1) + 6 - 6 * (k - 1)) (drop (6 * (k - 1)) bytes))
+    → (length (putMid at (at + 8 - at) part group) ≡ length old)
+    × (putMid at (at + 8 - at) part group ≡ upto (at + 8) (writeGroups n bytes) old)
+    × (drop (at + 8) (writeGroups n bytes) ≡ writeGroups (k - 1) bytes)
+unfolding six
+turn n k at bytes old part group h kn an bn on ep ed eg =
+    let all = writeGroups n bytes in
+    let long : length all ≡ 8 * n = length-writeGroups n bytes (omega arith) in
+    let size : 6 * (k - 1) + 6 - 6 * (k - 1) ≡ 6 = omega arith in
+    let its-own : group ≡ withPec (six (k - 1) bytes) = eg ∙ ap (λ (m : ℕ). withPec (take m (drop (6 * (k - 1)) bytes))) size in
+    let eight : length group ≡ 8 = ap length its-own ∙ omega (arith, length-withPec (six (k - 1) bytes), length-six (k - 1) bytes (omega arith)) in
+    let next : drop at all ≡ group ++ writeGroups (k - 1) bytes = ed ∙ writeGroups-step k bytes h ∙ ap (λ (x : List ℕ). x ++ writeGroups (k - 1) bytes) (sym its-own) in
+    let laid : putMid at (at + 8 - at) part group ≡ upto (at + 8) all old =
+    ap (λ (x : List ℕ). putMid at (at + 8 - at) x group) ep ∙ upto-more all old group (writeGroups (k - 1) bytes) at (at + 8) 8 eight refl (omega arith) (omega arith) next in
+    (ap length laid ∙ length-upto all old (at + 8) (omega arith) (omega arith), laid, rest all group (writeGroups (k - 1) bytes) at 8 eight next)

@@ -1,0 +1,7 @@
+pub mod Lookup
+pub mod KindCases
+pub mod Sizes
+pub mod GroupLaws
+pub mod FrameLaws
+pub mod Numbers
+pub mod Determined

@@ -1,0 +1,115 @@
+-- The law of the command table: a code is found with its kind and group, or is unknown; no code stands twice. A rule of the rows is one test that antt
+-- computes over all of them, and it then holds of whatever is looked up. Assumes nothing.
+use mathlib.Core.Path.{_≡_, refl, sym, ap, _∙_}
+use mathlib.Core.Bool.{Bool, true, false, not, _&&_, _||_}
+use mathlib.Core.List.{List, [], _∷_, map}
+use Prim.Native.Nat.{ℕ, _+_, _*_, _≤_, _<_}
+use native.Mathlib.Numerals.{add-one}
+use native.Mathlib.Omega.{arith}
+use borrow.Author.Tests.{eqb-true, eqb-false, ltb-true, le-ltb, eq-eqb, ne-eqb}
+use lib.Dec.{eqb, ltb}
+use lib.ListN.{length, getD, drop, drop-of-length-le, List·getD-map}
+use lib.Seq.{drop-cons}
+use Rattle.lent.specs.Refusal.{pick}
+use Rattle.lent.proofs.Tests.{clash, and-left, and-right, below, each-below}
+use Rattle.frames.specs.Commands.{Row, row, rows, found, kindOf, groupOf}
+
+-- the row at a place, and past the table's end an empty one
+abbrev pub rowAt : ℕ → Row
+rowAt i = getD rows i (row 0 0 0)
+
+-- THE LAW: a test that passes at an unknown code and at every row passes at what is found
+abbrev pub every : (Row → Bool) → List Row → Bool
+every f [] = true
+every f (r ∷ rs) = f r && every f rs
+
+by-test : (f : Row → Bool) (r r′ : Row) (b : Bool) → f r ≡ true → f r′ ≡ true → f (pick b r r′) ≡ true
+unfolding pick
+by-test f r r′ true p q = p
+by-test f r r′ false p q = q
+
+found-in : (f : Row → Bool) (code : ℕ) (rs : List Row) → f (row code 0 0) ≡ true → every f rs ≡ true → f (found code rs) ≡ true
+unfolding found
+found-in f code [] z t = z
+found-in f code (r ∷ rs) z t =
+    by-test f r (found code rs) (eqb (r .code) code) (and-left (f r) (every f rs) t) (found-in f code rs z (and-right (f r) (every f rs) t))
+
+pub looked-up : (f : Row → Bool) (code : ℕ) → f (row code 0 0) ≡ true → every f rows ≡ true → f (found code rows) ≡ true
+looked-up f code z t = found-in f code rows z t
+
+-- what is found has the code that was asked for
+own-code : (r r′ : Row) (code : ℕ) (b : Bool) → eqb (r .code) code ≡ b → r′ .code ≡ code → pick b r r′ .code ≡ code
+unfolding pick
+own-code r r′ code true e q = eqb-true (r .code) code e
+own-code r r′ code false e q = q
+
+found-code : (code : ℕ) (rs : List Row) → found code rs .code ≡ code
+unfolding found
+found-code code [] = refl
+found-code code (r ∷ rs) = own-code r (found code rs) code (eqb (r .code) code) refl (found-code code rs)
+
+-- a kind is 0, 1, 2 or 3, a group one of the eighteen
+pub kind-below : (code : ℕ) → kindOf code < 4
+unfolding kindOf rows
+kind-below code = ltb-true (found code rows .kind) 4 (looked-up (λ (r : Row). ltb (r .kind) 4) code refl refl)
+
+pub group-below : (code : ℕ) → groupOf code < 18
+unfolding groupOf rows
+group-below code = ltb-true (found code rows .group) 18 (looked-up (λ (r : Row). ltb (r .group) 18) code refl refl)
+
+-- a known code is one of eleven bits; so a first byte with any of its top five bits set is unknown
+narrow : Row → Bool
+narrow r = eqb (r .kind) 0 || ltb (r .code) 2048
+
+pub known-below : (code : ℕ) → (kindOf code ≡ 0 → ⊥) → code < 2048
+unfolding kindOf narrow rows
+known-below code known =
+    let t : (eqb (kindOf code) 0 || ltb (found code rows .code) 2048) ≡ true = looked-up narrow code refl refl in
+    ltb-true code 2048 (ap (λ (x : ℕ). ltb x 2048) (sym (found-code code rows)) ∙ rw (ne-eqb (kindOf code) 0 known) at t)
+
+pub top-bits-unknown : (high low : ℕ) → 8 ≤ high → kindOf (high * 256 + low) ≡ 0
+top-bits-unknown high low h = go (eqb (kindOf (high * 256 + low)) 0) refl
+  where
+    go : (b : Bool) → eqb (kindOf (high * 256 + low)) 0 ≡ b → kindOf (high * 256 + low) ≡ 0
+    go true e = eqb-true (kindOf (high * 256 + low)) 0 e
+    go false e = absurd (omega (arith, known-below (high * 256 + low) (eqb-false (kindOf (high * 256 + low)) 0 e)))
+
+-- each of the 26 rows is found by its code
+foundRow : ℕ → Bool
+foundRow i = eqb (kindOf (rowAt i .code)) (rowAt i .kind) && eqb (groupOf (rowAt i .code)) (rowAt i .group)
+
+pub row-found : (i : ℕ) → i < 26 → (kindOf (rowAt i .code) ≡ rowAt i .kind) × (groupOf (rowAt i .code) ≡ rowAt i .group)
+unfolding foundRow kindOf groupOf found rows pick
+row-found i h =
+    let t = each-below foundRow 26 refl i h in (
+      eqb-true (kindOf (rowAt i .code)) (rowAt i .kind) (and-left (eqb (kindOf (rowAt i .code)) (rowAt i .kind)) (eqb (groupOf (rowAt i .code)) (rowAt i .group)) t),
+      eqb-true (groupOf (rowAt i .code)) (rowAt i .group) (and-right (eqb (kindOf (rowAt i .code)) (rowAt i .kind)) (eqb (groupOf (rowAt i .code)) (rowAt i .group)) t),
+    )
+
+-- no code stands twice
+sameRow : ℕ → ℕ → Bool
+sameRow i j = not (eqb (rowAt i .code) (rowAt j .code)) || eqb i j
+
+pub no-code-twice : (i j : ℕ) → i < 26 → j < 26 → rowAt i .code ≡ rowAt j .code → i ≡ j
+unfolding sameRow rows
+no-code-twice i j hi hj e =
+    let t : sameRow i j ≡ true = each-below (sameRow i) 26 (each-below (λ (k : ℕ). below 26 (sameRow k)) 26 refl i hi) j hj in
+    eqb-true i j (rw (eq-eqb (rowAt i .code) (rowAt j .code) e) at t)
+
+-- The search, row by row: the code is at i; it is not; the table is at its end.
+abbrev pub codes : List ℕ
+codes = map (λ (r : Row). r .code) rows
+
+pub hit : (code i : ℕ) → i < length rows → getD codes i 0 ≡ code → found code (drop i rows) ≡ rowAt i
+unfolding found pick
+hit code i h e =
+    rw (drop-cons rows i (row 0 0 0) h, eq-eqb (rowAt i .code) code (sym (List·getD-map (λ (r : Row). r .code) rows i (row 0 0 0)) ∙ e))
+
+pub miss : (code i : ℕ) → i < length rows → (getD codes i 0 ≡ code → ⊥) → found code (drop i rows) ≡ found code (drop (i + 1) rows)
+unfolding found pick
+miss code i h e =
+    rw (add-one, drop-cons rows i (row 0 0 0) h, ne-eqb (rowAt i .code) code (λ s. e (List·getD-map (λ (r : Row). r .code) rows i (row 0 0 0) ∙ s)))
+
+pub none-left : (code i : ℕ) → length rows ≤ i → found code (drop i rows) ≡ row code 0 0
+unfolding found
+none-left code i h = rw (drop-of-length-le rows {i = i} h)

@@ -1,0 +1,77 @@
+-- `frames::commands::find` is the one lookup. The loop's invariant: what is found in the rows from i on is what is found in all. Assumes nothing.
+use mathlib.Core.Path.{_≡_, refl, ap, sym, _∙_}
+use mathlib.Core.List.{List, map}
+use Prim.Native.Nat.{ℕ, _≤_, _-_}
+use native.Mathlib.Omega.{arith}
+use lib.ListN.{drop, List·getD-map}
+use Rattle.frames.specs.Commands.{Row, row, rows, found, kindOf, groupOf}
+use Rattle.frames.proofs.Lookup.{codes, hit, miss, none-left}
+use Rattle.frames.proofs.commands.find.Statement.{statement}
+use Rattle.frames.proofs.commands.find.Tie as tie
+
+abbrev Inv-loop : tie.InvT-loop
+Inv-loop code codes₀ i₀ i = (i ≤ 26) × (codes₀ ≡ codes) × (found code rows ≡ found code (drop i rows))
+
+abbrev μ-loop : tie.MeasureT-loop
+μ-loop code codes₀ i₀ i = 26 - i
+
+loop-holds : tie.Need-loop-holds Inv-loop μ-loop
+unfolding rows
+loop-holds c = (omega arith, refl, refl)
+
+mul-if1 : tie.Need-mul-if1 Inv-loop μ-loop
+mul-if1 c = omega arith
+
+array-read-if1 : tie.Need-array-read-if1 Inv-loop μ-loop
+array-read-if1 c = omega arith
+
+array-read-t13 : tie.Need-array-read-t13 Inv-loop μ-loop
+array-read-t13 c = omega arith
+
+array-read-t17 : tie.Need-array-read-t17 Inv-loop μ-loop
+array-read-t17 c = omega arith
+
+returns : tie.Need-returns Inv-loop μ-loop
+unfolding kindOf groupOf rows
+returns c =
+    let l = c .before .before .loop in
+    let e = l .inv .2 ∙ hit (c .before .before .before .args .code) (l .i) (omega arith) (c .if1 .taken) in (
+      List·getD-map (λ (r : Row). r .kind) rows (l .i) (row 0 0 0) ∙ sym (ap (λ (r : Row). r .kind) e),
+      List·getD-map (λ (r : Row). r .group) rows (l .i) (row 0 0 0) ∙ sym (ap (λ (r : Row). r .group) e),
+    )
+
+add-i : tie.Need-add-i Inv-loop μ-loop
+add-i c = omega arith
+
+loop-less : tie.Need-loop-less Inv-loop μ-loop
+loop-less c = omega arith
+
+loop-again : tie.Need-loop-again Inv-loop μ-loop
+unfolding rows
+loop-again c =
+    let l = c .before .before .loop in
+    (omega arith, l .inv .1, l .inv .2 ∙ miss (c .before .before .before .args .code) (l .i) (omega arith) (c .if1 .left))
+
+returns-2 : tie.Need-returns-2 Inv-loop μ-loop
+unfolding kindOf groupOf rows
+returns-2 c =
+    let l = c .before .loop in
+    let e = l .inv .2 ∙ none-left (c .before .before .args .code) (l .i) (omega arith) in
+    (sym (ap (λ (r : Row). r .kind) e), sym (ap (λ (r : Row). r .group) e))
+
+pub find-spec : {M : Type 1} → statement M
+find-spec =
+    tie.close
+    (tie.spec
+    Inv-loop
+    μ-loop
+    loop-holds
+    mul-if1
+    array-read-if1
+    array-read-t13
+    array-read-t17
+    returns
+    add-i
+    loop-less
+    loop-again
+    returns-2)

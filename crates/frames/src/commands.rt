@@ -1,0 +1,125 @@
+// The one table of 26 commands, and the search by code that writer, chain and reader use.
+ghost use mathlib.Core.Path.{_≡_};
+ghost use Rattle.frames.specs.Commands.{kindOf, groupOf};
+
+// Row by row as document 01 has them: code, kind, and the group written or read; of a clear, the first group it sets.
+const CODES: [u32; 26] = [
+    0x001,
+    0x002,
+    0x024,
+    0x026,
+    0x004,
+    0x006,
+    0x008,
+    0x00A,
+    0x009,
+    0x00B,
+    0x00C,
+    0x00E,
+    0x00D,
+    0x00F,
+    0x010,
+    0x012,
+    0x721,
+    0x722,
+    0x014,
+    0x016,
+    0x020,
+    0x022,
+    0x01C,
+    0x01E,
+    0x711,
+    0x712,
+];
+
+const KINDS: [u8; 26] = [
+    1,
+    2,
+    1,
+    2,
+    2,
+    2,
+    2,
+    2,
+    2,
+    2,
+    2,
+    2,
+    2,
+    2,
+    2,
+    2,
+    1,
+    2,
+    1,
+    2,
+    1,
+    2,
+    1,
+    2,
+    3,
+    3,
+];
+
+const GROUPS: [u8; 26] = [
+    0,
+    0,
+    1,
+    1,
+    2,
+    3,
+    4,
+    5,
+    6,
+    7,
+    8,
+    9,
+    10,
+    11,
+    12,
+    13,
+    14,
+    14,
+    15,
+    15,
+    16,
+    16,
+    17,
+    17,
+    2,
+    8,
+];
+
+pub const UNKNOWN: u8 = 0;
+
+pub const WRITE: u8 = 1;
+
+pub const READ: u8 = 2;
+
+pub const CLEAR: u8 = 3;
+
+pub struct Command {
+    pub kind: u8,
+    pub group: u8,
+}
+
+// The kind and group of a code; UNKNOWN where the table does not have it.
+pub fn find(code: u32) -> Command
+    ensures { λ r. ⌜ (r .kind ≡ kindOf code) × (r .group ≡ groupOf code) ⌝ }
+{
+    let codes = CODES;
+    let mut i: usize = 0;
+    while i < 26 {
+        if codes[i] == code {
+            return Command {
+                kind: KINDS[i],
+                group: GROUPS[i],
+            };
+        }
+        i += 1;
+    }
+    Command {
+        kind: UNKNOWN,
+        group: 0,
+    }
+}
