@@ -1,10 +1,11 @@
 -- A test computed once over all numbers below n holds at each of them. Assumes nothing.
 use mathlib.Core.Path.{_≡_, refl, sym, ap, _∙_, subst}
 use mathlib.Core.Bool.{Bool, true, false, _&&_, _||_}
-use mathlib.Core.Logic.{⊎-elim}
-use Prim.Native.Nat.{ℕ, zero, suc, _<_}
+use mathlib.Core.Logic.{_⊎_, inl, inr, ⊎-elim}
+use Prim.Native.Nat.{ℕ, zero, suc, _<_, _≤_}
 use native.Mathlib.Nat.{le-of-suc-le-suc, not-suc-le-zero, eq-or-lt-of-le}
-use lib.Dec.{T}
+use borrow.Author.Tests.{ltb-true, ltb-false}
+use lib.Dec.{T, ltb}
 
 -- true is not false
 pub clash {ℓ} : {A : Type ℓ} → true ≡ false → A
@@ -26,6 +27,14 @@ or-left false b e = refl
 pub or-right : (a b : Bool) → (a || b) ≡ false → b ≡ false
 or-right true b e = clash e
 or-right false b e = e
+
+-- below, or not
+pub lt-or-le : (a b : ℕ) → (a < b) ⊎ (b ≤ a)
+lt-or-le a b = by-test (ltb a b) refl
+  where
+    by-test : (t : Bool) → ltb a b ≡ t → (a < b) ⊎ (b ≤ a)
+    by-test true e = inl (ltb-true a b e)
+    by-test false e = inr (ltb-false a b e)
 
 -- the test f passes at each number below n
 abbrev pub below : ℕ → (ℕ → Bool) → Bool

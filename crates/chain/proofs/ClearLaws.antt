@@ -1,0 +1,122 @@
+-- A clear: its groups become 0xFF on every device, every other group stays. Assumes nothing.
+use mathlib.Core.Path.{_≡_, refl, sym, ap, _∙_}
+use mathlib.Core.Bool.{Bool, true, false, not, _||_}
+use mathlib.Core.Logic.{_⊎_, inl, inr, ⊎-elim}
+use mathlib.Core.List.{List, _∷_}
+use Prim.Native.Nat.{ℕ, zero, suc, _+_, _*_, _-_, _^_, _≤_, _<_}
+use native.Mathlib.Nat.{le-of-suc-le-suc, eq-or-lt-of-le}
+use native.Mathlib.Numerals.{add-one}
+use native.Mathlib.Omega.{arith}
+use borrow.Author.Tests.{leb-true}
+use borrow.Rule.Slice.PartMut.{putMid}
+use lib.Dec.{eqb, leb, lit<}
+use lib.ListN.{length, take, drop, replicate, length-replicate}
+use lib.Pow.{pow-mono}
+use Rattle.lent.specs.Bytes.{Bytes}
+use Rattle.lent.specs.Memory.{splice}
+use Rattle.lent.specs.Refusal.{pick}
+use Rattle.lent.proofs.Bytes.{bytes-splice, bytes-replicate}
+use Rattle.lent.proofs.Over.{filled}
+use Rattle.lent.proofs.Splice.{length-splice, splice-put, splice-before, splice-after, splice-inside}
+use Rattle.frames.specs.Commands.{Row, rows, found, kindOf, groupOf}
+use Rattle.frames.proofs.Lookup.{looked-up}
+use Rattle.chain.specs.State.{stateLength, spot, stored}
+use Rattle.chain.specs.Effect.{silence, clearCount, cleared}
+use Rattle.chain.proofs.StateLaws.{within, apart}
+
+-- the groups of a clear are of the eighteen: one computed test over the table's rows
+roomy : Row → Bool
+roomy r = not (eqb (r .kind) 3) || leb (r .group + clearCount (r .group)) 18
+
+pub clear-room : (code : ℕ) → kindOf code ≡ 3 → groupOf code + clearCount (groupOf code) ≤ 18
+unfolding roomy clearCount pick rows kindOf groupOf
+clear-room code e =
+    let t : (not (eqb (kindOf code) 3) || leb (groupOf code + clearCount (groupOf code)) 18) ≡ true = looked-up roomy code refl refl in
+    leb-true (groupOf code + clearCount (groupOf code)) 18 (rw e at t)
+
+pub clears-some : (g : ℕ) → 0 < clearCount g
+unfolding clearCount
+clears-some g = some (eqb g 2)
+  where
+    some : (b : Bool) → 0 < pick b 6 4
+    some true = unfold pick in lit< tt
+    some false = unfold pick in lit< tt
+
+pub pow-most : (n : ℕ) → n ≤ 16 → 2 ^ n ≤ 65536
+pow-most n h = pow-mono {i = n} {j = 16} h
+
+-- one turn of the loop
+pub turn : (k g count at : ℕ) (state now after : List ℕ) → at ≡ spot k g → now ≡ cleared k g count state → length after ≡ 6 * count
+    → after ≡ replicate (length (take (at + 6 * count - at) (drop at now))) 255
+    → putMid at (at + 6 * count - at) now after ≡ cleared (k + 1) g count state
+unfolding cleared silence
+turn k g count at state now after ea en la e =
+    splice-put at (at + 6 * count) after now (omega arith)
+    ∙ ap (λ (l : List ℕ). splice at l now) (filled after 255 (length (take (at + 6 * count - at) (drop at now))) (6 * count) e la)
+    ∙ rw (add-one, ea, en)
+
+length-silence : (count : ℕ) → length (silence count) ≡ count
+unfolding silence
+length-silence count = length-replicate {A = ℕ} count 255
+
+take-replicate : (n m v : ℕ) → n ≤ m → take n (replicate m v) ≡ replicate n v
+take-replicate zero m v h = refl
+take-replicate (suc n) zero v h = absurd (omega arith)
+take-replicate (suc n) (suc m) v h = ap (λ (l : List ℕ). v ∷ l) (take-replicate n m v (omega arith))
+
+drop-replicate : (j m v : ℕ) → drop j (replicate m v) ≡ replicate (m - j) v
+drop-replicate zero m v = let e : m ≡ m - 0 = omega arith in ap (λ (i : ℕ). replicate i v) e
+drop-replicate (suc j) zero v = let e : 0 ≡ 0 - suc j = omega arith in ap (λ (i : ℕ). replicate i v) e
+drop-replicate (suc j) (suc m) v = let e : m - j ≡ suc m - suc j = omega arith in drop-replicate j m v ∙ ap (λ (i : ℕ). replicate i v) e
+
+-- a part of the silence is silence
+pub part-silence : (j n m : ℕ) → j + n ≤ m → take n (drop j (silence m)) ≡ silence n
+unfolding silence
+part-silence j n m h = ap (take n) (drop-replicate j m 255) ∙ take-replicate n (m - j) 255 (omega arith)
+
+module _ (n g count : ℕ) (state : List ℕ) (room : g + count ≤ 18) (whole : length state ≡ stateLength n) where
+  pub length-cleared : (j : ℕ) → j ≤ n → length (cleared j g count state) ≡ stateLength n
+  unfolding cleared
+  length-cleared zero h = whole
+  length-cleared (suc j) h =
+      let e = length-cleared j (omega arith) in
+      length-splice (spot j g) (silence (6 * count)) (cleared j g count state) (omega (arith, within n j g count h room, length-silence (6 * count))) ∙ e
+
+  -- one device more: a group apart from those that it clears stays
+  one-more : (j k h : ℕ) → j < n → h < 18 → (k ≡ j → (h < g) ⊎ (g + count ≤ h)) → stored k h (cleared (suc j) g count state) ≡ stored k h (cleared j g count state)
+  unfolding cleared stored
+  one-more j k h l lh ne =
+      let e = length-cleared j (omega arith) in
+      let w = within n j g count l room in
+      let s = length-silence (6 * count) in
+      ⊎-elim
+      (λ a. splice-before (spot k h) 6 (spot j g) (silence (6 * count)) (cleared j g count state) a (omega arith))
+      (λ a. splice-after (spot k h) 6 (spot j g) (silence (6 * count)) (cleared j g count state) (omega arith) (omega arith))
+      (apart k h j g count lh room ne)
+
+  pub cleared-other : (j k h : ℕ) → j ≤ n → h < 18 → (k < j → (h < g) ⊎ (g + count ≤ h)) → stored k h (cleared j g count state) ≡ stored k h state
+  unfolding cleared
+  cleared-other zero k h l lh ne = refl
+  cleared-other (suc j) k h l lh ne = one-more j k h l lh (λ e. ne (omega arith)) ∙ cleared-other j k h (omega arith) lh (λ a. ne (omega arith))
+
+  pub cleared-own : (j k h : ℕ) → j ≤ n → k < j → g ≤ h → h < g + count → stored k h (cleared j g count state) ≡ silence 6
+  unfolding cleared
+  cleared-own zero k h l lk a b = absurd (omega arith)
+  cleared-own (suc j) k h l lk a b =
+      ⊎-elim (λ e. here e) (λ c. one-more j k h l (omega arith) (λ e. absurd (omega arith)) ∙ cleared-own j k h (omega arith) c a b) (eq-or-lt-of-le (le-of-suc-le-suc lk))
+    where
+      place : k ≡ j → spot k h ≡ spot j g + 6 * (h - g)
+      place e = unfold spot in omega arith
+
+      here : k ≡ j → stored k h (splice (spot j g) (silence (6 * count)) (cleared j g count state)) ≡ silence 6
+      here e = unfold stored in
+          (ap (λ (i : ℕ). take 6 (drop i (splice (spot j g) (silence (6 * count)) (cleared j g count state)))) (place e)
+          ∙ splice-inside (spot j g) (6 * (h - g)) 6 (silence (6 * count)) (cleared j g count state) (omega (arith, length-silence (6 * count)))
+          (omega (arith, length-silence (6 * count), within n j g count l room, length-cleared j (omega arith)))
+          ∙ part-silence (6 * (h - g)) 6 (6 * count) (omega arith))
+
+pub bytes-cleared : (g count : ℕ) (state : List ℕ) → Bytes state → (j : ℕ) → Bytes (cleared j g count state)
+unfolding cleared silence
+bytes-cleared g count state b zero = b
+bytes-cleared g count state b (suc j) =
+    bytes-splice (spot j g) (replicate (6 * count) 255) (cleared j g count state) (bytes-replicate (6 * count) 255 (omega arith)) (bytes-cleared g count state b j)

@@ -1,0 +1,153 @@
+-- A write: each device by its own group on the wire alone, its registers and its bit of the word. Assumes nothing.
+use mathlib.Core.Path.{_≡_, refl, sym, ap, ap₂, _∙_, subst}
+use mathlib.Core.Bool.{Bool, true, false}
+use mathlib.Core.Logic.{⊎-elim}
+use mathlib.Core.List.{List}
+use Prim.Native.Nat.{ℕ, zero, suc, _+_, _*_, _-_, _/_, _%_, _^_, _≤_, _<_}
+use native.Mathlib.Nat.{pow-suc, add-mul-mod-self-right, add-zero, le-of-suc-le-suc, eq-or-lt-of-le}
+use native.Mathlib.Numerals.{add-one}
+use native.Mathlib.Omega.{arith}
+use lib.ListN.{length, take, drop, length-take, length-drop}
+use lib.Pow.{pow-pos, pow-mono, pow-add, high, field}
+use lib.Seq.{length-take-le}
+use borrow.Rule.Slice.PartMut.{putMid}
+use Rattle.lent.specs.Bytes.{Bytes}
+use Rattle.lent.specs.Refusal.{pick}
+use Rattle.lent.proofs.Bytes.{bytes-take, bytes-drop, bytes-pick}
+use Rattle.lent.proofs.Pick.{pick-true}
+use Rattle.lent.proofs.Splice.{put-pick}
+use Rattle.pec.specs.Group.{right}
+use Rattle.frames.specs.Places.{wire}
+use Rattle.chain.specs.State.{stateLength, spot, stored, storing}
+use Rattle.chain.specs.Effect.{written, storedBits}
+use Rattle.chain.proofs.StateLaws.{length-storing, stored-own, stored-other, bytes-storing}
+
+pub length-wire : (n k : ℕ) (frame : List ℕ) → k < n → length frame ≡ 4 + 8 * n → length (wire n k frame) ≡ 8
+unfolding wire
+length-wire n k frame h l = simp (length-take, length-drop) (omega arith)
+
+length-new : (n k : ℕ) (frame : List ℕ) → k < n → length frame ≡ 4 + 8 * n → length (take 6 (wire n k frame)) ≡ 6
+length-new n k frame h l = length-take-le 6 (wire n k frame) (omega (arith, length-wire n k frame h l))
+
+-- ONE TURN OF THE LOOP: the registers, and the word
+pub turn : (n k g at from : ℕ) (frame state now after : List ℕ) → k < n → length frame ≡ 4 + 8 * n → at ≡ spot k g → from ≡ 4 + 8 * (n - 1 - k)
+    → now ≡ written n k g frame state
+    → after ≡ pick (right (take (from + 8 - from) (drop from frame))) (take 6 (take (from + 8 - from) (drop from frame))) (take (at + 6 - at) (drop at now))
+    → putMid at (at + 6 - at) now after ≡ written n (k + 1) g frame state
+unfolding wire storing written
+turn n k g at from frame state now after h lf ea ef en e =
+    let size : from + 8 - from ≡ 8 = omega arith in
+    let six : length (take 6 (wire n k frame)) ≡ 6 = length-new n k frame h lf in
+    put-pick (right (wire n k frame)) at (at + 6) after now (take 6 (wire n k frame)) (omega arith) (e ∙ rw (size, ef))
+    ∙ rw (add-one, ea, en)
+
+pub turn-word : (n k from word bit r : ℕ) (frame : List ℕ) → from ≡ 4 + 8 * (n - 1 - k) → bit ≡ 2 ^ k → word ≡ storedBits n k frame
+    → r ≡ pick (right (take (from + 8 - from) (drop from frame))) bit 0 → word + r ≡ storedBits n (k + 1) frame
+unfolding wire storedBits
+turn-word n k from word bit r frame ef eb ew er = let size : from + 8 - from ≡ 8 = omega arith in rw (add-one, ew, er, size, ef, eb)
+
+pub pick-most : (b : Bool) (x : ℕ) → pick b x 0 ≤ x
+unfolding pick
+pick-most true x = omega arith
+pick-most false x = omega arith
+
+pub pow-step : (k : ℕ) → 2 ^ (k + 1) ≡ 2 ^ k * 2
+pow-step k = rw (add-one, pow-suc)
+
+pub bit-small : (n k : ℕ) → k < n → n ≤ 16 → 2 ^ k ≤ 32768
+bit-small n k h l = pow-mono {i = k} {j = 15} (omega arith)
+
+-- THE REGISTERS
+module _ (n g : ℕ) (frame state : List ℕ) (hg : g < 18) (lf : length frame ≡ 4 + 8 * n) (whole : length state ≡ stateLength n) where
+  pub length-written : (j : ℕ) → j ≤ n → length (written n j g frame state) ≡ stateLength n
+  unfolding written
+  length-written zero h = whole
+  length-written (suc j) h = go (right (wire n j frame)) (written n j g frame state) (length-written j (omega arith))
+    where
+      go : (b : Bool) (now : List ℕ) → length now ≡ stateLength n → length (pick b (storing j g (take 6 (wire n j frame)) now) now) ≡ stateLength n
+      go true now e = unfold pick in length-storing n j g (take 6 (wire n j frame)) now (length-new n j frame h lf) h hg e ∙ e
+      go false now e = unfold pick in e
+
+  -- every other group, and the devices not yet reached, stay
+  pub written-other : (j k h : ℕ) → j ≤ n → h < 18 → (k < j → h ≡ g → ⊥) → stored k h (written n j g frame state) ≡ stored k h state
+  unfolding written
+  written-other zero k h l lh ne = refl
+  written-other (suc j) k h l lh ne =
+      go (right (wire n j frame)) (written n j g frame state) (length-written j (omega arith)) ∙ written-other j k h (omega arith) lh (λ a e. ne (omega arith) e)
+    where
+      go : (b : Bool) (now : List ℕ) → length now ≡ stateLength n → stored k h (pick b (storing j g (take 6 (wire n j frame)) now) now) ≡ stored k h now
+      go true now e = unfold pick in
+          stored-other n j g (take 6 (wire n j frame)) now (length-new n j frame l lf) l hg e k h lh (λ a b. ne (omega arith) b)
+      go false now e = unfold pick in refl
+
+  -- device k + 1's own group, by its own group on the wire
+  pub written-own : (j k : ℕ) → j ≤ n → k < j → stored k g (written n j g frame state) ≡ pick (right (wire n k frame)) (take 6 (wire n k frame)) (stored k g state)
+  unfolding written
+  written-own zero k l h = absurd (omega arith)
+  written-own (suc j) k l h =
+      ⊎-elim
+      (λ e. subst (λ (i : ℕ). stored i g (written n (suc j) g frame state) ≡ pick (right (wire n i frame)) (take 6 (wire n i frame)) (stored i g state)) (sym e)
+      (here (right (wire n j frame)) (written n j g frame state) (length-written j (omega arith)) (written-other j j g (omega arith) hg (λ a b. absurd (omega arith)))))
+      (λ a. before (right (wire n j frame)) (written n j g frame state) (length-written j (omega arith)) a ∙ written-own j k (omega arith) a)
+      (eq-or-lt-of-le (le-of-suc-le-suc h))
+    where
+      here : (b : Bool) (now : List ℕ) → length now ≡ stateLength n → stored j g now ≡ stored j g state
+          → stored j g (pick b (storing j g (take 6 (wire n j frame)) now) now) ≡ pick b (take 6 (wire n j frame)) (stored j g state)
+      here true now e kept = unfold pick in stored-own n j g (take 6 (wire n j frame)) now (length-new n j frame l lf) l hg e
+      here false now e kept = unfold pick in kept
+
+      before : (b : Bool) (now : List ℕ) → length now ≡ stateLength n → k < j → stored k g (pick b (storing j g (take 6 (wire n j frame)) now) now) ≡ stored k g now
+      before true now e a = unfold pick in
+          stored-other n j g (take 6 (wire n j frame)) now (length-new n j frame l lf) l hg e k g hg (λ x y. absurd (omega arith))
+      before false now e a = unfold pick in refl
+
+pub bytes-written : (n g : ℕ) (frame state : List ℕ) → Bytes frame → Bytes state → (j : ℕ) → Bytes (written n j g frame state)
+unfolding written wire
+bytes-written n g frame state bf bs zero = bs
+bytes-written n g frame state bf bs (suc j) =
+    let now = bytes-written n g frame state bf bs j in
+    let new = bytes-take 6 (wire n j frame) (bytes-take 8 (drop (4 + 8 * (n - 1 - j)) frame) (bytes-drop (4 + 8 * (n - 1 - j)) frame bf)) in
+    bytes-pick (right (wire n j frame)) (storing j g (take 6 (wire n j frame)) (written n j g frame state)) (written n j g frame state)
+    (bytes-storing j g (take 6 (wire n j frame)) (written n j g frame state) new now) now
+
+-- THE WORD
+pub bits-below : (n k : ℕ) (frame : List ℕ) → storedBits n k frame < 2 ^ k
+unfolding storedBits
+bits-below n zero frame = omega (arith, pow-pos 0)
+bits-below n (suc k) frame = omega (arith, bits-below n k frame, pick-most (right (wire n k frame)) (2 ^ k), pow-suc 2 k)
+
+-- bit k of a number is not changed by a higher one
+bit-high : (x k j : ℕ) → k < j → (x + 2 ^ j) / 2 ^ k % 2 ≡ x / 2 ^ k % 2
+bit-high x k j h =
+    let e : 2 ^ j ≡ 2 ^ (j - (1 + k)) * 2 ^ (1 + k) = ap (λ (i : ℕ). 2 ^ i) (omega arith) ∙ pow-add 2 (j - (1 + k)) (1 + k) in
+    sym (field (x + 2 ^ j) 1 k)
+    ∙ ap (λ (i : ℕ). i / 2 ^ k) (ap (λ (i : ℕ). (x + i) % 2 ^ (1 + k)) e ∙ add-mul-mod-self-right x (2 ^ (j - (1 + k))) (2 ^ (1 + k)))
+    ∙ field x 1 k
+
+-- bit j of a number below 2^j, with 2^j added, and without
+bit-here : (x j : ℕ) (b : Bool) → x < 2 ^ j → (x + pick b (2 ^ j) 0) / 2 ^ j % 2 ≡ pick b 1 0
+unfolding pick
+bit-here x j true h = ap (λ (i : ℕ). i % 2) (ap (λ (i : ℕ). i / 2 ^ j) (omega arith) ∙ high 1 j h)
+bit-here x j false h = ap (λ (i : ℕ). i % 2) (ap (λ (i : ℕ). i / 2 ^ j) (omega arith) ∙ high 0 j h)
+
+pub bits-at : (n j k : ℕ) (frame : List ℕ) → k < j → storedBits n j frame / 2 ^ k % 2 ≡ pick (right (wire n k frame)) 1 0
+unfolding storedBits
+bits-at n zero k frame h = absurd (omega arith)
+bits-at n (suc j) k frame h =
+    ⊎-elim
+    (λ e. subst (λ (i : ℕ). storedBits n (suc j) frame / 2 ^ i % 2 ≡ pick (right (wire n i frame)) 1 0) (sym e)
+    (bit-here (storedBits n j frame) j (right (wire n j frame)) (bits-below n j frame)))
+    (λ a. before (right (wire n j frame)) (storedBits n j frame) a ∙ bits-at n j k frame a)
+    (eq-or-lt-of-le (le-of-suc-le-suc h))
+  where
+    before : (b : Bool) (x : ℕ) → k < j → (x + pick b (2 ^ j) 0) / 2 ^ k % 2 ≡ x / 2 ^ k % 2
+    before true x l = unfold pick in bit-high x k j l
+    before false x l = unfold pick in ap (λ (i : ℕ). i / 2 ^ k % 2) (add-zero x)
+
+-- a write that reached every device
+pub bits-all : (n j : ℕ) (frame : List ℕ) → ((k : ℕ) → k < j → right (wire n k frame) ≡ true) → storedBits n j frame ≡ 2 ^ j - 1
+unfolding storedBits
+bits-all n zero frame h = refl
+bits-all n (suc j) frame h =
+    ap₂ (λ (x y : ℕ). x + y) (bits-all n j frame (λ k l. h k (omega arith))) (pick-true (right (wire n j frame)) (2 ^ j) 0 (h j (omega arith)))
+    ∙ omega (arith, pow-suc 2 j, pow-pos j)

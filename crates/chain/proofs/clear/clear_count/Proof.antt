@@ -1,0 +1,18 @@
+-- `chain::clear::clear_count` is the definition. Assumes nothing.
+use mathlib.Core.Path.{_≡_}
+use borrow.Author.Tests.{eq-eqb, ne-eqb}
+use Rattle.lent.specs.Refusal.{pick}
+use Rattle.chain.specs.Effect.{clearCount}
+use Rattle.chain.proofs.clear.clear_count.Statement.{statement}
+use Rattle.chain.proofs.clear.clear_count.Tie as tie
+
+returns : tie.Need-returns
+unfolding clearCount pick
+returns c = rw (eq-eqb _ _ (c .if1 .taken))
+
+returns-2 : tie.Need-returns-2
+unfolding clearCount pick
+returns-2 c = rw (ne-eqb _ _ (c .if1 .left))
+
+pub clear-count-spec : {M : Type 1} → statement M
+clear-count-spec = tie.close (tie.spec returns returns-2)

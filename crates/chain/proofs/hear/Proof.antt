@@ -1,0 +1,193 @@
+-- `chain::hear` meets the chain's record: each return by the law of its number, on a reply that is filled with silence first. Assumes nothing.
+use mathlib.Core.Path.{_≡_, refl, sym, _∙_}
+use native.Mathlib.Omega.{arith}
+use borrow.Author.Needs.{needs}
+use borrow.Author.Tests.{not-true, not-false}
+use Rattle.frames.proofs.Lookup.{kind-below, group-below}
+use Rattle.frames.proofs.Sizes.{at-most}
+use Rattle.chain.specs.Chain.{codeOf, fills}
+use Rattle.chain.proofs.ClearLaws.{clear-room}
+use Rattle.chain.proofs.Numbers.{number-6, number-4, number-2, number-6-length, number-0, filled-over, silent, done, answer-over}
+use Rattle.chain.proofs.hear.Statement.{statement}
+use Rattle.chain.proofs.hear.Tie as tie
+
+sub-fill : tie.Need-sub-fill
+sub-fill c = search needs
+
+part-fill-start : tie.Need-part-fill-start
+part-fill-start c = search needs
+
+part-fill-end : tie.Need-part-fill-end
+part-fill-end c = search needs
+
+fill-requires : tie.Need-fill-requires
+fill-requires c κs = search needs
+
+same-length : tie.Need-same-length
+same-length c = search needs
+
+returns : tie.Need-returns
+unfolding fills
+returns c =
+    let start = c .before .before .before .before .before .before .before .before in
+    let a = start .args in
+    silent (a .n) (a .frame .now) (a .state .now) (a .reply .now) 6 _ refl refl (number-6 _ _ _ _ (start .pre .0) (start .pre .1) (start .pre .2) (c .if1 .taken))
+    (filled-over (a .frame .now) (a .reply .now) (c .before .before .before .fill .last .0) (start .pre .2) (c .before .before .before .fill .ensures))
+
+table-requires : tie.Need-table-requires
+table-requires c κs = search needs
+
+sub-is-right : tie.Need-sub-is-right
+sub-is-right c = search needs
+
+part-is-right-start : tie.Need-part-is-right-start
+part-is-right-start c = search needs
+
+part-is-right-end : tie.Need-part-is-right-end
+part-is-right-end c = search needs
+
+is-right-requires : tie.Need-is-right-requires
+is-right-requires c κs = search needs
+
+same-length-2 : tie.Need-same-length-2
+same-length-2 c = search needs
+
+returns-2 : tie.Need-returns-2
+unfolding fills
+returns-2 c =
+    let start = c .before .before .before .before .before .before .before .before .before .before .before .before .before in
+    let a = start .args in
+    let wrong = sym (c .before .is-right .ensures) ∙ not-true _ (c .if2 .taken) in
+    silent (a .n) (a .frame .now) (a .state .now) (a .reply .now) 4 _ refl refl (number-4 _ _ _ _ (start .pre .0) (start .pre .1) (start .pre .2) (c .before .before .before .before .before .if1 .left) wrong)
+    (filled-over (a .frame .now) (a .reply .now) (c .before .before .before .before .before .before .before .before .fill .last .0) (start .pre .2) (c .before .before .before .before .before .before .before .before .fill .ensures))
+
+shared-slice-read-high : tie.Need-shared-slice-read-high
+shared-slice-read-high c = search needs
+
+cast-high : tie.Need-cast-high
+cast-high c = omega (arith, c .shared-slice-known2 .given 0)
+
+shared-slice-read-low : tie.Need-shared-slice-read-low
+shared-slice-read-low c = search needs
+
+cast-low : tie.Need-cast-low
+cast-low c = omega (arith, c .shared-slice-known3 .given 1)
+
+mul-find : tie.Need-mul-find
+mul-find c = omega (arith, c .shared-slice-known3 .given 0)
+
+add-find : tie.Need-add-find
+add-find c = omega (arith, c .shared-slice-known3 .given 0, c .shared-slice-known3 .given 1)
+
+find-requires : tie.Need-find-requires
+find-requires c κs = search needs
+
+same-length-3 : tie.Need-same-length-3
+same-length-3 c = search needs
+
+returns-3 : tie.Need-returns-3
+unfolding fills codeOf
+returns-3 c =
+    let start = c .before .before .before .before .before .before .before .before .before .before .before .before .before .before .before .before .before in
+    let a = start .args in
+    let good = sym (c .before .before .before .before .before .is-right .ensures) ∙ not-false _ (c .before .before .before .before .if2 .left) in
+    silent (a .n) (a .frame .now) (a .state .now) (a .reply .now) 2 _ refl refl
+    (number-2 _ _ _ _ (start .pre .0) (start .pre .1) (start .pre .2) (c .before .before .before .before .before .before .before .before .before .if1 .left) good _ (c .before .find .ensures .0) (c .if3 .taken))
+    (filled-over (a .frame .now) (a .reply .now) (c .before .before .before .before .before .before .before .before .before .before .before .before .fill .last .0) (start .pre .2) (c .before .before .before .before .before .before .before .before .before .before .before .before .fill .ensures))
+
+frame-length-requires : tie.Need-frame-length-requires
+frame-length-requires c κs = at-most _ (c .before .before .before .before .before .before .before .before .before .before .before .before .before .before .before .before .before .pre .0)
+
+same-length-4 : tie.Need-same-length-4
+same-length-4 c = search needs
+
+returns-4 : tie.Need-returns-4
+unfolding fills codeOf
+returns-4 c =
+    let start = c .before .before .before .before .before .before .before .before .before .before .before .before .before .before .before .before .before .before .before in
+    let a = start .args in
+    let good = sym (c .before .before .before .before .before .before .before .is-right .ensures) ∙ not-false _ (c .before .before .before .before .before .before .if2 .left) in
+    silent (a .n) (a .frame .now) (a .state .now) (a .reply .now) 6 _ refl refl
+    (number-6-length _ _ _ _ (start .pre .0) (start .pre .1) (start .pre .2) (c .before .before .before .before .before .before .before .before .before .before .before .if1 .left) good _ (c .before .before .before .find .ensures .0) (c .before .before .if3 .left) _ (c .before .frame-length .ensures)
+    (c .if4 .taken))
+    (filled-over (a .frame .now) (a .reply .now) (c .before .before .before .before .before .before .before .before .before .before .before .before .before .before .fill .last .0) (start .pre .2) (c .before .before .before .before .before .before .before .before .before .before .before .before .before .before .fill .ensures))
+
+cast-group : tie.Need-cast-group
+cast-group c = search needs
+
+obey-requires : tie.Need-obey-requires
+unfolding codeOf
+obey-requires c κs =
+    let start = c .before .before .before .before .before .before .before .before .before .before .before .before .before .before .before .before .before .before .before .before .before .before .before in
+    let a = start .args in
+    let code = codeOf (a .frame .now) in
+    let f = c .before .before .before .before .before .before .before .find .ensures in (
+      c .before .before .before .before .before .before .before .before .before .before .before .before .before .before .table .ensures,
+      at-most _ (start .pre .0),
+      omega arith,
+      omega (arith, f .0, kind-below code),
+      omega (arith, f .1, group-below code),
+      (λ e. rw (f .1) (clear-room code (sym (f .0) ∙ e))),
+      c .before .before .before .before .if4 .left ∙ c .before .before .before .before .before .frame-length .ensures,
+      start .pre .1,
+      omega arith,
+    )
+
+same-length-5 : tie.Need-same-length-5
+same-length-5 c = search needs
+
+same-length-6 : tie.Need-same-length-6
+same-length-6 c = search needs
+
+returns-5 : tie.Need-returns-5
+unfolding codeOf
+returns-5 c =
+    let start = c .before .before .before .before .before .before .before .before .before .before .before .before .before .before .before .before .before .before .before .before .before .before .before .before .before .before .before .before in
+    let a = start .args in
+    let code = codeOf (a .frame .now) in
+    let f = c .before .before .before .before .before .before .before .before .before .before .before .before .find .ensures in
+    let obeyed = c .before .before .before .before .obey .ensures in
+    let long = c .before .before .before .before .before .before .before .before .before .if4 .left in
+    let size = c .before .before .before .before .before .before .before .before .before .before .frame-length .ensures in
+    let good = sym (c .before .before .before .before .before .before .before .before .before .before .before .before .before .before .before .before .is-right .ensures) ∙ not-false _ (c .before .before .before .before .before .before .before .before .before .before .before .before .before .before .before .if2 .left) in
+    done (a .n) (a .frame .now) (a .state .now) (a .reply .now) _ _ _ _ _
+    (number-0 _ _ _ _ (start .pre .0) (start .pre .1) (start .pre .2) (c .before .before .before .before .before .before .before .before .before .before .before .before .before .before .before .before .before .before .before .before .if1 .left) good _ (f .0) (c .before .before .before .before .before .before .before .before .before .before .before .if3 .left) _ size long)
+    (f .0) (f .1) (obeyed .0) (obeyed .1)
+    (answer-over (a .n) _ _ (a .frame .now) (a .state .now) (a .reply .now) _ _ (omega (arith, f .1, group-below code)) (start .pre .1) (long ∙ size) (start .pre .2)
+    (filled-over (a .frame .now) (a .reply .now) (c .before .before .before .before .before .before .before .before .before .before .before .before .before .before .before .before .before .before .before .before .before .before .before .fill .last .0) (start .pre .2) (c .before .before .before .before .before .before .before .before .before .before .before .before .before .before .before .before .before .before .before .before .before .before .before .fill .ensures))
+    (obeyed .2))
+
+pub hear-spec : {M : Type 1} → statement M
+hear-spec =
+    tie.close
+    (tie.spec
+    sub-fill
+    part-fill-start
+    part-fill-end
+    fill-requires
+    same-length
+    returns
+    table-requires
+    sub-is-right
+    part-is-right-start
+    part-is-right-end
+    is-right-requires
+    same-length-2
+    returns-2
+    shared-slice-read-high
+    cast-high
+    shared-slice-read-low
+    cast-low
+    mul-find
+    add-find
+    find-requires
+    same-length-3
+    returns-3
+    frame-length-requires
+    same-length-4
+    returns-4
+    cast-group
+    obey-requires
+    same-length-5
+    same-length-6
+    returns-5)

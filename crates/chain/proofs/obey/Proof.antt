@@ -1,0 +1,93 @@
+-- `chain::obey`: what each kind of command does. Assumes nothing.
+use mathlib.Core.Path.{_≡_, _∙_}
+use native.Mathlib.Omega.{arith}
+use borrow.Author.Needs.{needs}
+use Rattle.frames.proofs.KindCases.{length-long}
+use Rattle.chain.proofs.ClearLaws.{clears-some}
+use Rattle.chain.proofs.Obeyed.{obeyed-write, obeyed-read, obeyed-clear}
+use Rattle.chain.proofs.obey.Statement.{statement}
+use Rattle.chain.proofs.obey.Tie as tie
+
+store-groups-requires : tie.Need-store-groups-requires
+store-groups-requires c κs =
+    let start = c .before .before .before .before .before in
+    let a = start .args in
+    (start .pre .0, omega arith, omega arith, start .pre .6 ∙ length-long (a .n) (a .kind) (λ e. omega arith), start .pre .7)
+
+same-length : tie.Need-same-length
+same-length c = search needs
+
+returns : tie.Need-returns
+returns c =
+    let a = c .before .before .before .before .before .before .before .before .args in
+    obeyed-write (a .n) (a .kind) (a .group) (a .frame .now) (a .state .now) (a .reply .now) _ _ (c .before .before .before .before .if1 .taken) (c .before .before .store-groups .ensures .0) (c .before .before .store-groups .ensures .1)
+
+mul-end : tie.Need-mul-end
+mul-end c = search needs
+
+add-end : tie.Need-add-end
+add-end c = search needs
+
+sub-put-answers : tie.Need-sub-put-answers
+sub-put-answers c = search needs
+
+part-put-answers-start : tie.Need-part-put-answers-start
+part-put-answers-start c = search needs
+
+part-put-answers-end : tie.Need-part-put-answers-end
+part-put-answers-end c =
+    let start = c .before .before .before .before .before .before in
+    omega (arith, start .pre .6, start .pre .8, length-long (start .args .n) (start .args .kind) (λ e. omega arith))
+
+put-answers-requires : tie.Need-put-answers-requires
+put-answers-requires c κs = (c .before .before .before .before .before .before .before .pre .0, omega arith, omega arith, c .before .before .before .before .before .before .before .pre .7, omega arith)
+
+same-length-2 : tie.Need-same-length-2
+same-length-2 c = search needs
+
+same-length-3 : tie.Need-same-length-3
+same-length-3 c = search needs
+
+returns-2 : tie.Need-returns-2
+returns-2 c =
+    let a = c .before .before .before .before .before .before .before .before .before .before .args in
+    obeyed-read (a .n) (a .kind) (a .group) (a .frame .now) (a .state .now) (a .reply .now) (c .before .before .put-answers .last .1 .1 .1 .1 .0) (c .before .before .before .before .before .if2 .taken) (omega arith) (c .before .before .put-answers .ensures)
+
+clear-count-requires : tie.Need-clear-count-requires
+clear-count-requires c κs = search needs
+
+clear-groups-requires : tie.Need-clear-groups-requires
+clear-groups-requires c κs =
+    let start = c .before .before .before .before .before .before .before in
+    let many = c .before .clear-count .ensures in
+    (omega arith, omega (arith, clears-some (start .args .group)), omega (arith, start .pre .5 (omega arith)), start .pre .7)
+
+same-length-4 : tie.Need-same-length-4
+same-length-4 c = search needs
+
+returns-3 : tie.Need-returns-3
+returns-3 c =
+    let a = c .before .before .before .before .before .before .before .before .before .before .args in
+    let cleared = c .before .before .clear-groups in
+    obeyed-clear (a .n) (a .kind) (a .group) (a .frame .now) (a .state .now) (a .reply .now) _ _ _ (omega arith) (cleared .ensures .0) (c .before .before .before .before .clear-count .ensures) (cleared .ensures .1)
+
+pub obey-spec : {M : Type 1} → statement M
+obey-spec =
+    tie.close
+    (tie.spec
+    store-groups-requires
+    same-length
+    returns
+    mul-end
+    add-end
+    sub-put-answers
+    part-put-answers-start
+    part-put-answers-end
+    put-answers-requires
+    same-length-2
+    same-length-3
+    returns-2
+    clear-count-requires
+    clear-groups-requires
+    same-length-4
+    returns-3)

@@ -1,0 +1,141 @@
+-- `chain::write::store_groups`: each device by its own group. The loop's invariant: k devices have stored or kept, and the word has their bits. Assumes nothing.
+use mathlib.Core.Path.{_≡_, refl, ap, _∙_}
+use Prim.Native.Nat.{ℕ, _+_, _-_, _*_, _^_, _≤_}
+use native.Mathlib.Omega.{arith}
+use borrow.Rule.Slice.PartMut.{same-len-mid}
+use lib.ListN.{length, take, drop}
+use Rattle.pec.specs.Group.{right}
+use Rattle.chain.specs.Effect.{written, storedBits}
+use Rattle.chain.proofs.StateLaws.{within, size-most}
+use Rattle.chain.proofs.WriteLaws.{turn, turn-word, pick-most, pow-step, bit-small, bits-below}
+use Rattle.chain.proofs.write.store_groups.Statement.{statement}
+use Rattle.chain.proofs.write.store_groups.Tie as tie
+
+abbrev Inv-loop : tie.InvT-loop
+Inv-loop table n group frame state₀ k₀ word₀ bit₀ state k word bit =
+    (k ≤ n) × (bit ≡ 2 ^ k) × (word ≡ storedBits n k frame) × (length state ≡ length state₀) × (state ≡ written n k group frame state₀)
+
+abbrev μ-loop : tie.MeasureT-loop
+μ-loop table n group frame state₀ k₀ word₀ bit₀ state k word bit = n - k
+
+loop-holds : tie.Need-loop-holds Inv-loop μ-loop
+unfolding written storedBits
+loop-holds c = (omega arith, refl, refl, refl, refl)
+
+spot-requires : tie.Need-spot-requires Inv-loop μ-loop
+spot-requires c κs = omega arith
+
+sub-from : tie.Need-sub-from Inv-loop μ-loop
+sub-from c = omega arith
+
+sub-from-2 : tie.Need-sub-from-2 Inv-loop μ-loop
+sub-from-2 c = omega arith
+
+mul-from : tie.Need-mul-from Inv-loop μ-loop
+mul-from c = omega arith
+
+add-from : tie.Need-add-from Inv-loop μ-loop
+add-from c = omega arith
+
+add-take-group : tie.Need-add-take-group Inv-loop μ-loop
+add-take-group c = omega arith
+
+sub-take-group : tie.Need-sub-take-group Inv-loop μ-loop
+sub-take-group c = omega arith
+
+part-take-group-start : tie.Need-part-take-group-start Inv-loop μ-loop
+part-take-group-start c = omega arith
+
+part-take-group-end : tie.Need-part-take-group-end Inv-loop μ-loop
+part-take-group-end c = omega arith
+
+cast-take-group : tie.Need-cast-take-group Inv-loop μ-loop
+cast-take-group c = omega (arith, c .before .before .before .loop .inv .1, bit-small (c .before .before .before .before .before .before .args .n) (c .before .before .before .loop .k) (omega arith) (omega arith))
+
+add-take-group-2 : tie.Need-add-take-group-2 Inv-loop μ-loop
+add-take-group-2 c = let a = c .before .before .before .before .before .before .args in omega (arith, c .before .spot .ensures, size-most (a .n) (omega arith), within (a .n) (c .before .before .before .loop .k) (a .group) 1 (omega arith) (omega arith))
+
+sub-take-group-2 : tie.Need-sub-take-group-2 Inv-loop μ-loop
+sub-take-group-2 c = omega arith
+
+part-take-group-start-2 : tie.Need-part-take-group-start-2 Inv-loop μ-loop
+part-take-group-start-2 c = omega arith
+
+part-take-group-end-2 : tie.Need-part-take-group-end-2 Inv-loop μ-loop
+part-take-group-end-2 c = let a = c .before .before .before .before .before .before .args in omega (arith, c .before .spot .ensures, size-most (a .n) (omega arith), within (a .n) (c .before .before .before .loop .k) (a .group) 1 (omega arith) (omega arith))
+
+take-group-requires : tie.Need-take-group-requires Inv-loop μ-loop
+take-group-requires c κs = (c .before .before .before .before .before .before .before .pre .0, omega arith, omega arith)
+
+add-word : tie.Need-add-word Inv-loop μ-loop
+add-word c =
+    let a = c .before .before .before .before .before .before .before .before .before .before .args in
+    let l = c .before .before .before .before .before .before .before .loop in
+    omega (arith, l .inv .1, l .inv .2, bit-small (a .n) (l .k) (omega arith) (omega arith), bits-below (a .n) (l .k) (a .frame .now), c .before .before .take-group .ensures .0,
+    pick-most (right (take (4 + 8 * (a .n - 1 - l .k) + 8 - (4 + 8 * (a .n - 1 - l .k))) (drop (4 + 8 * (a .n - 1 - l .k)) (a .frame .now)))) (l .bit))
+
+mul-bit : tie.Need-mul-bit Inv-loop μ-loop
+mul-bit c = omega (arith, c .before .before .before .before .before .before .before .loop .inv .1, bit-small (c .before .before .before .before .before .before .before .before .before .before .args .n) (c .before .before .before .before .before .before .before .loop .k) (omega arith) (omega arith))
+
+add-k : tie.Need-add-k Inv-loop μ-loop
+add-k c = omega arith
+
+loop-less : tie.Need-loop-less Inv-loop μ-loop
+loop-less c = omega arith
+
+loop-again : tie.Need-loop-again Inv-loop μ-loop
+loop-again c =
+    let start = c .before .before .before .before .before .before .before .before .before .before in
+    let a = start .args in
+    let l = c .before .before .before .before .before .before .before .loop in
+    let t = c .before .before .take-group in
+    let at = c .before .before .before .before .before .spot .result in
+    let from = 4 + 8 * (a .n - 1 - l .k) in (
+      omega arith,
+      omega (arith, l .inv .1, pow-step (l .k)),
+      turn-word (a .n) (l .k) from (l .word) (l .bit) (t .result) (a .frame .now) refl (l .inv .1) (l .inv .2) (t .ensures .0),
+      same-len-mid at (at + 6 - at) (l .state) (t .last .1 .1 .1 .0) (t .kept .1 .1 .1 .0) ∙ l .inv .3,
+      turn (a .n) (l .k) (a .group) at from (a .frame .now) (a .state .now) (l .state) (t .last .1 .1 .1 .0) (omega arith) (start .pre .3) (c .before .before .before .before .before .spot .ensures) refl (l .inv .4) (t .ensures .1),
+    )
+
+same-length : tie.Need-same-length Inv-loop μ-loop
+same-length c = omega arith
+
+returns : tie.Need-returns Inv-loop μ-loop
+returns c =
+    let a = c .before .before .before .before .args in
+    let l = c .before .loop in
+    let all : l .k ≡ a .n = omega arith in (
+      l .inv .2 ∙ ap (λ (k : ℕ). storedBits (a .n) k (a .frame .now)) all,
+      l .inv .4 ∙ ap (λ (k : ℕ). written (a .n) k (a .group) (a .frame .now) (a .state .now)) all,
+    )
+
+pub store-groups-spec : {M : Type 1} → statement M
+store-groups-spec =
+    tie.close
+    (tie.spec
+    Inv-loop
+    μ-loop
+    loop-holds
+    spot-requires
+    sub-from
+    sub-from-2
+    mul-from
+    add-from
+    add-take-group
+    sub-take-group
+    part-take-group-start
+    part-take-group-end
+    cast-take-group
+    add-take-group-2
+    sub-take-group-2
+    part-take-group-start-2
+    part-take-group-end-2
+    take-group-requires
+    add-word
+    mul-bit
+    add-k
+    loop-less
+    loop-again
+    same-length
+    returns)

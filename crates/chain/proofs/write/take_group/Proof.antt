@@ -1,0 +1,53 @@
+-- `chain::write::take_group` stores where the group is right, and keeps where not. Assumes nothing.
+use mathlib.Core.Path.{_≡_, sym, _∙_}
+use native.Mathlib.Omega.{arith}
+use borrow.Author.Needs.{needs}
+use lib.ListN.{length, take}
+use lib.Seq.{length-take-le}
+use Rattle.lent.specs.Refusal.{pick}
+use Rattle.lent.proofs.Over.{copied}
+use Rattle.chain.proofs.write.take_group.Statement.{statement}
+use Rattle.chain.proofs.write.take_group.Tie as tie
+
+is-right-requires : tie.Need-is-right-requires
+is-right-requires c κs = search needs
+
+sub-copy : tie.Need-sub-copy
+sub-copy c = search needs
+
+part-copy-start : tie.Need-part-copy-start
+part-copy-start c = search needs
+
+part-copy-end : tie.Need-part-copy-end
+part-copy-end c = search needs
+
+copy-requires : tie.Need-copy-requires
+copy-requires c κs = search needs
+
+same-length : tie.Need-same-length
+same-length c = search needs
+
+returns : tie.Need-returns
+unfolding pick
+returns c =
+    let a = c .before .before .before .before .before .before .before .before .before .args in
+    let good = sym (c .before .before .before .before .before .before .is-right .ensures) ∙ c .before .before .before .before .before .if1 .taken in
+    let six : length (take 6 (a .group .now)) ≡ 6 = length-take-le 6 (a .group .now) (omega arith) in
+    (rw good, rw good (copied (take 6 (a .group .now)) (a .registers .now) (c .before .before .copy .last .1 .0) (omega arith) (c .before .before .copy .ensures .1)))
+
+returns-2 : tie.Need-returns-2
+unfolding pick
+returns-2 c = let wrong = sym (c .before .is-right .ensures) ∙ c .if1 .left in (rw wrong, rw wrong)
+
+pub take-group-spec : {M : Type 1} → statement M
+take-group-spec =
+    tie.close
+    (tie.spec
+    is-right-requires
+    sub-copy
+    part-copy-start
+    part-copy-end
+    copy-requires
+    same-length
+    returns
+    returns-2)

@@ -1,0 +1,90 @@
+// The chain: a model of 1 to 16 devices, their registers in lent state.
+ghost use mathlib.Core.Path.{_≡_};
+ghost use Prim.Native.Nat.{_+_, _<_, _≤_};
+ghost use lib.ListN.{length};
+ghost use Rattle.lent.specs.Memory.{splice};
+ghost use Rattle.lent.specs.Refusal.{pick};
+ghost use Rattle.pec.specs.Remainders.{remainders};
+ghost use mathlib.Core.Bool.{false};
+ghost use Rattle.frames.specs.Size.{outside};
+ghost use Rattle.frames.specs.Kind.{isRead, frameLength};
+ghost use Rattle.chain.specs.State.{stateLength};
+ghost use Rattle.chain.specs.Effect.{answers, clearCount, changed, report};
+ghost use Rattle.chain.specs.Chain.{Serves};
+use frames::commands;
+
+mod clear;
+mod read;
+mod state;
+mod write;
+
+#[repr(C)]
+pub struct Heard {
+    pub number: u8,
+    pub word: u16,
+}
+
+// What a good frame does to the state and to a reply of silence, by the kind of its command; the word.
+fn obey(table: &[u16; 256], n: usize, kind: u8, group: usize, frame: &[u8], state: &mut [u8], reply: &mut [u8]) -> u16
+    requires { ⌜ (now table ≡ remainders) × (n ≤ 16) × (0 < kind) × (kind < 4) × (group < 18) × (kind ≡ 3 → group + clearCount group ≤ 18) × (length (now frame) ≡ frameLength n kind) × (length (now state) ≡ stateLength n) × (length (now frame) ≤ length (now reply)) ⌝ }
+    ensures { λ r. ⌜ (r ≡ report n kind (now (frame .entry)))
+        × (now (state .exit) ≡ changed n kind group (now (frame .entry)) (now (state .entry)))
+        × (now (reply .exit) ≡ pick (isRead kind) (splice 4 (answers n group (now (state .entry))) (now (reply .entry))) (now (reply .entry))) ⌝ }
+{
+    if kind == commands::WRITE {
+        return write::store_groups(table, n, group, frame, state);
+    }
+    if kind == commands::READ {
+        let end = 4 + 8 * n;
+        read::put_answers(table, n, group, &state[..], &mut reply[4..end]);
+        return 0;
+    }
+    let count = clear::clear_count(group);
+    clear::clear_groups(n, group, count, state)
+}
+
+// What 1 to 16 devices hear of a frame, where the lent state and reply are as long as they have to be.
+fn hear(n: usize, frame: &[u8], state: &mut [u8], reply: &mut [u8]) -> Heard
+    requires { ⌜ (outside n ≡ false) × (length (now state) ≡ stateLength n) × (length (now frame) ≤ length (now reply)) ⌝ }
+    ensures { λ r. ⌜ Serves n (now (frame .entry)) (now (state .entry)) (now (reply .entry)) r (now (state .exit)) (now (reply .exit)) ⌝ }
+{
+    let length = frame.len();
+    lent::fill(&mut reply[0..length], 255);
+    if length < 4 {
+        return Heard { number: 6, word: 0 };
+    }
+    let table = pec::table();
+    if !pec::is_right(&table, &frame[0..4]) {
+        return Heard { number: 4, word: 0 };
+    }
+    let high = frame[0] as u32;
+    let low = frame[1] as u32;
+    let command = commands::find(high * 256 + low);
+    let kind = command.kind;
+    if kind == commands::UNKNOWN {
+        return Heard { number: 2, word: 0 };
+    }
+    if length != frames::writer::frame_length(n, kind) {
+        return Heard { number: 6, word: 0 };
+    }
+    let group = command.group as usize;
+    let word = obey(&table, n, kind, group, frame, state, reply);
+    Heard { number: 0, word }
+}
+
+// What n devices hear of a frame, and what they answer.
+pub fn serve(n: u32, frame: &[u8], state: &mut [u8], reply: &mut [u8]) -> Heard
+    ensures { λ r. ⌜ Serves n (now (frame .entry)) (now (state .entry)) (now (reply .entry)) r (now (state .exit)) (now (reply .exit)) ⌝ }
+{
+    if frames::size::outside(n) {
+        return Heard { number: 1, word: 0 };
+    }
+    let devices = n as usize;
+    if state.len() != state::state_length(devices) {
+        return Heard { number: 3, word: 0 };
+    }
+    if reply.len() < frame.len() {
+        return Heard { number: 5, word: 0 };
+    }
+    hear(devices, frame, state, reply)
+}

@@ -1,0 +1,42 @@
+// A write: each device by its own group alone.
+ghost use mathlib.Core.Path.{_≡_};
+ghost use Prim.Native.Nat.{_+_, _*_, _<_, _≤_};
+ghost use lib.ListN.{length, take};
+ghost use Rattle.lent.specs.Refusal.{pick};
+ghost use Rattle.pec.specs.Remainders.{remainders};
+ghost use Rattle.pec.specs.Group.{right};
+ghost use Rattle.chain.specs.State.{stateLength};
+ghost use Rattle.chain.specs.Effect.{written, storedBits};
+use crate::state::spot;
+
+// One device and its group on the wire: it stores the six bytes and answers `bit` where the group is right, else keeps what it had and answers 0.
+fn take_group(table: &[u16; 256], group: &[u8], bit: u16, registers: &mut [u8]) -> u16
+    requires { ⌜ (now table ≡ remainders) × (length (now group) ≡ 8) × (length (now registers) ≡ 6) ⌝ }
+    ensures { λ r. ⌜ (r ≡ pick (right (now (group .entry))) bit 0)
+        × (now (registers .exit) ≡ pick (right (now (group .entry))) (take 6 (now (group .entry))) (now (registers .entry))) ⌝ }
+{
+    if pec::is_right(table, group) {
+        bytes::copy(&group[0..6], registers);
+        return bit;
+    }
+    0
+}
+
+// The first group on the wire is device n's. The word has a bit for each device that stored.
+pub fn store_groups(table: &[u16; 256], n: usize, group: usize, frame: &[u8], state: &mut [u8]) -> u16
+    requires { ⌜ (now table ≡ remainders) × (n ≤ 16) × (group < 18) × (length (now frame) ≡ 4 + 8 * n) × (length (now state) ≡ stateLength n) ⌝ }
+    ensures { λ r. ⌜ (r ≡ storedBits n n (now (frame .entry)))
+        × (now (state .exit) ≡ written n n group (now (frame .entry)) (now (state .entry))) ⌝ }
+{
+    let mut k = 0;
+    let mut word: u16 = 0;
+    let mut bit: u32 = 1;
+    while k < n {
+        let at = spot(k, group);
+        let from = 4 + 8 * (n - 1 - k);
+        word += take_group(table, &frame[from..from + 8], bit as u16, &mut state[at..at + 6]);
+        bit *= 2;
+        k += 1;
+    }
+    word
+}
