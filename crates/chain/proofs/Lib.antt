@@ -5,3 +5,5 @@ pub mod ClearLaws
 pub mod Obeyed
 pub mod Numbers
 pub mod Determined
+pub mod Accepted
+pub mod Alone

@@ -1,3 +1,4 @@
 pub mod State
 pub mod Effect
 pub mod Chain
+pub mod Alone

@@ -1,5 +1,6 @@
 pub mod Tests
 pub mod Pick
+pub mod First
 pub mod Bytes
 pub mod Over
 pub mod Splice

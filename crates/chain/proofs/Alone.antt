@@ -1,0 +1,132 @@
+-- Changing one device's group on the wire at will alters no other device's registers, nor its bit of the word. Number, kind and group depend on the first
+-- four bytes and the length; what a device stores, and its bit, on its own group. Assumes nothing.
+use mathlib.Core.Path.{_≡_, refl, sym, ap, ap₂, _∙_, subst}
+use mathlib.Core.Bool.{Bool, true, false}
+use mathlib.Core.List.{List}
+use Prim.Native.Nat.{ℕ, _+_, _*_, _/_, _%_, _^_, _<_}
+use native.Mathlib.Omega.{arith}
+use borrow.Author.Tests.{eqb-true, eqb-false}
+use lib.Dec.{eqb}
+use lib.ListN.{length, take, getD}
+use lib.Seq.{getD-take}
+use Rattle.lent.specs.Refusal.{pick}
+use Rattle.lent.proofs.Pick.{pick-true, pick-false}
+use Rattle.pec.specs.Group.{right}
+use Rattle.frames.specs.Places.{wire}
+use Rattle.frames.specs.Commands.{kindOf, groupOf}
+use Rattle.frames.proofs.Lookup.{group-below}
+use Rattle.frames.proofs.KindCases.{length-long}
+use Rattle.chain.specs.State.{stored}
+use Rattle.chain.specs.Effect.{written, storedBits, changed, report}
+use Rattle.chain.specs.Chain.{codeOf, chainNumber, chainWord, chainState}
+use Rattle.chain.specs.Alone.{Alone}
+use Rattle.chain.proofs.Accepted.{Accepted, accepted}
+use Rattle.chain.proofs.WriteLaws.{written-own, written-other, bits-at}
+
+-- the code depends on the first four bytes, the number on them and the length
+code-alike : (frame frame′ : List ℕ) → take 4 frame ≡ take 4 frame′ → codeOf frame ≡ codeOf frame′
+unfolding codeOf
+code-alike frame frame′ e = ap₂ (λ (x y : ℕ). x * 256 + y) (byte 0 (omega arith)) (byte 1 (omega arith))
+  where
+    byte : (i : ℕ) → i < 4 → getD frame i 0 ≡ getD frame′ i 0
+    byte i h = sym (getD-take 4 frame i 0 h) ∙ ap (λ (l : List ℕ). getD l i 0) e ∙ getD-take 4 frame′ i 0 h
+
+number-alike : (n : ℕ) (frame frame′ : List ℕ) (s r : ℕ) → length frame ≡ length frame′ → take 4 frame ≡ take 4 frame′
+    → chainNumber n frame s r ≡ chainNumber n frame′ s r
+unfolding chainNumber
+number-alike n frame frame′ s r l e = simp (l, e, code-alike frame frame′ e)
+
+-- a good frame: device j + 1, by the kind
+module _ (n : ℕ) (frame frame′ state : List ℕ) (r j : ℕ) (l : length frame ≡ length frame′) (good : Accepted n frame (length state) r) (hj : j < n)
+    (own : wire n j frame ≡ wire n j frame′) where
+  abbrev kind : ℕ
+  kind = kindOf (codeOf frame)
+
+  abbrev g : ℕ
+  g = groupOf (codeOf frame)
+
+  written-alike : (h : ℕ) → h < 18 → kind ≡ 1 → stored j h (written n n g frame state) ≡ stored j h (written n n g frame′ state)
+  written-alike h lh write = go (eqb h g) refl
+    where
+      long : length frame ≡ 4 + 8 * n
+      long = good .long ∙ length-long n kind (λ e. omega arith)
+
+      go : (b : Bool) → eqb h g ≡ b → stored j h (written n n g frame state) ≡ stored j h (written n n g frame′ state)
+      go true e =
+          subst (λ (x : ℕ). stored j x (written n n g frame state) ≡ stored j x (written n n g frame′ state)) (sym (eqb-true h g e))
+          (written-own n g frame state (group-below (codeOf frame)) long (good .state) n j (omega arith) hj
+          ∙ ap (λ (x : List ℕ). pick (right x) (take 6 x) (stored j g state)) own
+          ∙ sym (written-own n g frame′ state (group-below (codeOf frame)) (sym l ∙ long) (good .state) n j (omega arith) hj))
+      go false e =
+          written-other n g frame state (group-below (codeOf frame)) long (good .state) n j h (omega arith) lh (λ a q. eqb-false h g e q)
+          ∙ sym (written-other n g frame′ state (group-below (codeOf frame)) (sym l ∙ long) (good .state) n j h (omega arith) lh (λ a q. eqb-false h g e q))
+
+  changed-alike : (h : ℕ) → h < 18 → stored j h (changed n kind g frame state) ≡ stored j h (changed n kind g frame′ state)
+  unfolding changed
+  changed-alike h lh = go (eqb kind 1) refl
+    where
+      go : (b : Bool) → eqb kind 1 ≡ b → stored j h (changed n kind g frame state) ≡ stored j h (changed n kind g frame′ state)
+      go true e =
+          ap (stored j h) (pick-true (eqb kind 1) _ _ e) ∙ written-alike h lh (eqb-true kind 1 e) ∙ sym (ap (stored j h) (pick-true (eqb kind 1) _ _ e))
+      go false e = ap (stored j h) (pick-false (eqb kind 1) _ _ e) ∙ sym (ap (stored j h) (pick-false (eqb kind 1) _ _ e))
+
+  report-alike : report n kind frame / 2 ^ j % 2 ≡ report n kind frame′ / 2 ^ j % 2
+  unfolding report
+  report-alike = go (eqb kind 1) refl
+    where
+      bit : ℕ → ℕ
+      bit x = x / 2 ^ j % 2
+
+      go : (b : Bool) → eqb kind 1 ≡ b → bit (report n kind frame) ≡ bit (report n kind frame′)
+      go true e =
+          ap bit (pick-true (eqb kind 1) _ _ e)
+          ∙ bits-at n n j frame hj
+          ∙ ap (λ (x : List ℕ). pick (right x) 1 0) own
+          ∙ sym (bits-at n n j frame′ hj)
+          ∙ sym (ap bit (pick-true (eqb kind 1) _ _ e))
+      go false e = ap bit (pick-false (eqb kind 1) _ _ e) ∙ sym (ap bit (pick-false (eqb kind 1) _ _ e))
+
+pub alone : Alone
+alone n k frame frame′ state reply l four wires r r′ after after′ answer answer′ s s′ j hj ne = (registers, word)
+  where
+    number : ℕ
+    number = chainNumber n frame (length state) (length reply)
+
+    same : r .number ≡ r′ .number
+    same = s .number ∙ number-alike n frame frame′ (length state) (length reply) l four ∙ sym (s′ .number)
+
+    code : codeOf frame ≡ codeOf frame′
+    code = code-alike frame frame′ four
+
+    good : r .number ≡ 0 → Accepted n frame (length state) (length reply)
+    good e = accepted n frame (length state) (length reply) (sym (s .number) ∙ e)
+
+    by-number : (h : ℕ) → h < 18 → (b : Bool) → eqb (r .number) 0 ≡ b
+        → stored j h (chainState (r .number) n frame state) ≡ stored j h (chainState (r .number) n frame′ state)
+    by-number h lh true e = unfold chainState in
+        (ap (stored j h) (pick-true (eqb (r .number) 0) _ _ e)
+        ∙ changed-alike n frame frame′ state (length reply) j l (good (eqb-true (r .number) 0 e)) hj (wires j hj ne) h lh
+        ∙ ap (λ (x : ℕ). stored j h (changed n (kindOf x) (groupOf x) frame′ state)) code
+        ∙ sym (ap (stored j h) (pick-true (eqb (r .number) 0) _ _ e)))
+    by-number h lh false e = unfold chainState in
+        (ap (stored j h) (pick-false (eqb (r .number) 0) _ _ e) ∙ sym (ap (stored j h) (pick-false (eqb (r .number) 0) _ _ e)))
+
+    registers : (h : ℕ) → h < 18 → stored j h after ≡ stored j h after′
+    registers h lh =
+        ap (stored j h) (s .registers) ∙ by-number h lh (eqb (r .number) 0) refl
+        ∙ ap (λ (x : ℕ). stored j h (chainState x n frame′ state)) same ∙ sym (ap (stored j h) (s′ .registers))
+
+    bit : ℕ → ℕ
+    bit x = x / 2 ^ j % 2
+
+    word-by : (b : Bool) → eqb (r .number) 0 ≡ b → bit (chainWord (r .number) n frame) ≡ bit (chainWord (r .number) n frame′)
+    word-by true e = unfold chainWord in
+        (ap bit (pick-true (eqb (r .number) 0) _ _ e)
+        ∙ report-alike n frame frame′ state (length reply) j l (good (eqb-true (r .number) 0 e)) hj (wires j hj ne)
+        ∙ ap (λ (x : ℕ). bit (report n (kindOf x) frame′)) code
+        ∙ sym (ap bit (pick-true (eqb (r .number) 0) _ _ e)))
+    word-by false e = unfold chainWord in (ap bit (pick-false (eqb (r .number) 0) _ _ e) ∙ sym (ap bit (pick-false (eqb (r .number) 0) _ _ e)))
+
+    word : bit (r .word) ≡ bit (r′ .word)
+    word =
+        ap bit (s .word) ∙ word-by (eqb (r .number) 0) refl ∙ ap (λ (x : ℕ). bit (chainWord x n frame′)) same ∙ sym (ap bit (s′ .word))
