@@ -1,14 +1,13 @@
 -- Changing one device's group on the wire at will alters no other device's registers, nor its bit of the word. Number, kind and group depend on the first
 -- four bytes and the length; what a device stores, and its bit, on its own group. Assumes nothing.
-use mathlib.Core.Path.{_≡_, refl, sym, ap, ap₂, _∙_, subst}
+use mathlib.Core.Path.{_≡_, refl, sym, ap, _∙_, subst}
 use mathlib.Core.Bool.{Bool, true, false}
 use mathlib.Core.List.{List}
 use Prim.Native.Nat.{ℕ, _+_, _*_, _/_, _%_, _^_, _<_}
 use native.Mathlib.Omega.{arith}
 use borrow.Author.Tests.{eqb-true, eqb-false}
 use lib.Dec.{eqb}
-use lib.ListN.{length, take, getD}
-use lib.Seq.{getD-take}
+use lib.ListN.{length, take}
 use Rattle.lent.specs.Refusal.{pick}
 use Rattle.lent.proofs.Pick.{pick-true, pick-false}
 use Rattle.pec.specs.Group.{right}
@@ -20,17 +19,11 @@ use Rattle.chain.specs.State.{stored}
 use Rattle.chain.specs.Effect.{written, storedBits, changed, report}
 use Rattle.chain.specs.Chain.{codeOf, chainNumber, chainWord, chainState}
 use Rattle.chain.specs.Alone.{Alone}
+use Rattle.chain.proofs.CodeLaws.{code-alike}
 use Rattle.chain.proofs.Accepted.{Accepted, accepted}
 use Rattle.chain.proofs.WriteLaws.{written-own, written-other, bits-at}
 
--- the code depends on the first four bytes, the number on them and the length
-code-alike : (frame frame′ : List ℕ) → take 4 frame ≡ take 4 frame′ → codeOf frame ≡ codeOf frame′
-unfolding codeOf
-code-alike frame frame′ e = ap₂ (λ (x y : ℕ). x * 256 + y) (byte 0 (omega arith)) (byte 1 (omega arith))
-  where
-    byte : (i : ℕ) → i < 4 → getD frame i 0 ≡ getD frame′ i 0
-    byte i h = sym (getD-take 4 frame i 0 h) ∙ ap (λ (l : List ℕ). getD l i 0) e ∙ getD-take 4 frame′ i 0 h
-
+-- the number depends on the first four bytes and the length
 number-alike : (n : ℕ) (frame frame′ : List ℕ) (s r : ℕ) → length frame ≡ length frame′ → take 4 frame ≡ take 4 frame′
     → chainNumber n frame s r ≡ chainNumber n frame′ s r
 unfolding chainNumber

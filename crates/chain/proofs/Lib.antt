@@ -5,5 +5,6 @@ pub mod ClearLaws
 pub mod Obeyed
 pub mod Numbers
 pub mod Determined
+pub mod CodeLaws
 pub mod Accepted
 pub mod Alone

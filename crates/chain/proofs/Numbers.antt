@@ -10,7 +10,6 @@ use lib.ListN.{length, take, drop, replicate, length-replicate}
 use lib.Seq.{length-take-le}
 use Rattle.lent.specs.Refusal.{pick, first}
 use Rattle.lent.specs.Memory.{over, splice}
-
 use Rattle.pec.specs.Group.{right}
 use Rattle.frames.specs.Size.{outside}
 use Rattle.frames.specs.Kind.{isRead, frameLength}

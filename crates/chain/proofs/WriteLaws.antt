@@ -130,6 +130,10 @@ unfolding pick
 bit-here x j true h = ap (λ (i : ℕ). i % 2) (ap (λ (i : ℕ). i / 2 ^ j) (omega arith) ∙ high 1 j h)
 bit-here x j false h = ap (λ (i : ℕ). i % 2) (ap (λ (i : ℕ). i / 2 ^ j) (omega arith) ∙ high 0 j h)
 
+pub bit-zero : (k : ℕ) → 0 / 2 ^ k % 2 ≡ 0
+unfolding pick
+bit-zero k = bit-here 0 k false (pow-pos k)
+
 pub bits-at : (n j k : ℕ) (frame : List ℕ) → k < j → storedBits n j frame / 2 ^ k % 2 ≡ pick (right (wire n k frame)) 1 0
 unfolding storedBits
 bits-at n zero k frame h = absurd (omega arith)

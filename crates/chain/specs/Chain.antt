@@ -23,13 +23,13 @@ codeOf frame = getD frame 0 0 * 256 + getD frame 1 0
 unfoldable pub chainNumber : ℕ → List ℕ → ℕ → ℕ → ℕ
 chainNumber n frame stateLen replyLen =
     first
-    ((outside n, 1)                                                                 -- N not 1..16
-    ∷ (not (eqb stateLen (stateLength n)), 3)                                       -- state not 108N
-    ∷ (ltb replyLen (length frame), 5)                                              -- reply below L
-    ∷ (ltb (length frame) 4, 6)                                                     -- under 4 bytes
-    ∷ (not (right (take 4 frame)), 4)                                               -- command PEC wrong
-    ∷ (isUnknown (kindOf (codeOf frame)), 2)                                        -- command unknown
-    ∷ (not (eqb (length frame) (frameLength n (kindOf (codeOf frame)))), 6)         -- length not that of its command
+    ((outside n, 1)  -- N not 1..16
+    ∷ (not (eqb stateLen (stateLength n)), 3)  -- state not 108N
+    ∷ (ltb replyLen (length frame), 5)  -- reply below L
+    ∷ (ltb (length frame) 4, 6)  -- under 4 bytes
+    ∷ (not (right (take 4 frame)), 4)  -- command PEC wrong
+    ∷ (isUnknown (kindOf (codeOf frame)), 2)  -- command unknown
+    ∷ (not (eqb (length frame) (frameLength n (kindOf (codeOf frame)))), 6)  -- length not that of its command
     ∷ [])
 
 -- The refusals that show silence: 6, 4 and 2 fill the first L reply bytes with 0xFF.

@@ -25,7 +25,15 @@ pub struct Heard {
 }
 
 // What a good frame does to the state and to a reply of silence, by the kind of its command; the word.
-fn obey(table: &[u16; 256], n: usize, kind: u8, group: usize, frame: &[u8], state: &mut [u8], reply: &mut [u8]) -> u16
+fn obey(
+    table: &[u16; 256],
+    n: usize,
+    kind: u8,
+    group: usize,
+    frame: &[u8],
+    state: &mut [u8],
+    reply: &mut [u8],
+) -> u16
     requires { ⌜ (now table ≡ remainders) × (n ≤ 16) × (0 < kind) × (kind < 4) × (group < 18) × (kind ≡ 3 → group + clearCount group ≤ 18) × (length (now frame) ≡ frameLength n kind) × (length (now state) ≡ stateLength n) × (length (now frame) ≤ length (now reply)) ⌝ }
     ensures { λ r. ⌜ (r ≡ report n kind (now (frame .entry)))
         × (now (state .exit) ≡ changed n kind group (now (frame .entry)) (now (state .entry)))
@@ -76,10 +84,10 @@ fn hear(n: usize, frame: &[u8], state: &mut [u8], reply: &mut [u8]) -> Heard
 pub fn serve(n: u32, frame: &[u8], state: &mut [u8], reply: &mut [u8]) -> Heard
     ensures { λ r. ⌜ Serves n (now (frame .entry)) (now (state .entry)) (now (reply .entry)) r (now (state .exit)) (now (reply .exit)) ⌝ }
 {
-    if frames::size::outside(n) {
+    let devices = n as usize;
+    if frames::size::outside(devices) {
         return Heard { number: 1, word: 0 };
     }
-    let devices = n as usize;
     if state.len() != state::state_length(devices) {
         return Heard { number: 3, word: 0 };
     }

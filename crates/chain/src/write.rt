@@ -23,7 +23,13 @@ fn take_group(table: &[u16; 256], group: &[u8], bit: u16, registers: &mut [u8]) 
 }
 
 // The first group on the wire is device n's. The word has a bit for each device that stored.
-pub fn store_groups(table: &[u16; 256], n: usize, group: usize, frame: &[u8], state: &mut [u8]) -> u16
+pub fn store_groups(
+    table: &[u16; 256],
+    n: usize,
+    group: usize,
+    frame: &[u8],
+    state: &mut [u8],
+) -> u16
     requires { ⌜ (now table ≡ remainders) × (n ≤ 16) × (group < 18) × (length (now frame) ≡ 4 + 8 * n) × (length (now state) ≡ stateLength n) ⌝ }
     ensures { λ r. ⌜ (r ≡ storedBits n n (now (frame .entry)))
         × (now (state .exit) ≡ written n n group (now (frame .entry)) (now (state .entry))) ⌝ }
@@ -34,7 +40,12 @@ pub fn store_groups(table: &[u16; 256], n: usize, group: usize, frame: &[u8], st
     while k < n {
         let at = spot(k, group);
         let from = 4 + 8 * (n - 1 - k);
-        word += take_group(table, &frame[from..from + 8], bit as u16, &mut state[at..at + 6]);
+        word += take_group(
+            table,
+            &frame[from..from + 8],
+            bit as u16,
+            &mut state[at..at + 6],
+        );
         bit *= 2;
         k += 1;
     }

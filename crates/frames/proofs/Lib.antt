@@ -5,3 +5,4 @@ pub mod GroupLaws
 pub mod FrameLaws
 pub mod Numbers
 pub mod Determined
+pub mod FrameParts

@@ -43,7 +43,7 @@ unfolding pick
 own-code r r′ code true e q = eqb-true (r .code) code e
 own-code r r′ code false e q = q
 
-found-code : (code : ℕ) (rs : List Row) → found code rs .code ≡ code
+pub found-code : (code : ℕ) (rs : List Row) → found code rs .code ≡ code
 unfolding found
 found-code code [] = refl
 found-code code (r ∷ rs) = own-code r (found code rs) code (eqb (r .code) code) refl (found-code code rs)

@@ -57,13 +57,13 @@ fn put_frame(n: usize, code: u32, kind: u8, bytes: &[u8], out: &mut [u8])
 pub fn write(n: u32, code: u32, bytes: &[u8], out: &mut [u8]) -> Written
     ensures { λ r. ⌜ Wrote n code (now (bytes .entry)) (now (out .entry)) r (now (out .exit)) ⌝ }
 {
-    if size::outside(n) {
+    let devices = n as usize;
+    if size::outside(devices) {
         return Written {
             number: 1,
             length: 0,
         };
     }
-    let devices = n as usize;
     let command = commands::find(code);
     let kind = command.kind;
     if kind == commands::UNKNOWN {

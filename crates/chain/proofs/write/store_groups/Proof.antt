@@ -71,8 +71,15 @@ add-word : tie.Need-add-word Inv-loop μ-loop
 add-word c =
     let a = c .before .before .before .before .before .before .before .before .before .before .args in
     let l = c .before .before .before .before .before .before .before .loop in
-    omega (arith, l .inv .1, l .inv .2, bit-small (a .n) (l .k) (omega arith) (omega arith), bits-below (a .n) (l .k) (a .frame .now), c .before .before .take-group .ensures .0,
-    pick-most (right (take (4 + 8 * (a .n - 1 - l .k) + 8 - (4 + 8 * (a .n - 1 - l .k))) (drop (4 + 8 * (a .n - 1 - l .k)) (a .frame .now)))) (l .bit))
+    omega (
+      arith,
+      l .inv .1,
+      l .inv .2,
+      bit-small (a .n) (l .k) (omega arith) (omega arith),
+      bits-below (a .n) (l .k) (a .frame .now),
+      c .before .before .take-group .ensures .0,
+      pick-most (right (take (4 + 8 * (a .n - 1 - l .k) + 8 - (4 + 8 * (a .n - 1 - l .k))) (drop (4 + 8 * (a .n - 1 - l .k)) (a .frame .now)))) (l .bit),
+    )
 
 mul-bit : tie.Need-mul-bit Inv-loop μ-loop
 mul-bit c = omega (arith, c .before .before .before .before .before .before .before .loop .inv .1, bit-small (c .before .before .before .before .before .before .before .before .before .before .args .n) (c .before .before .before .before .before .before .before .loop .k) (omega arith) (omega arith))
