@@ -1,0 +1,17 @@
+pub mod MarkLaws
+pub mod ReaderLaws
+pub mod ReaderNumbers
+pub mod ReaderDevices
+pub mod Bits
+pub mod Counts
+pub mod CellsCases
+pub mod Outmost
+pub mod Ends
+pub mod Sorts
+pub mod Room
+pub mod TallyCases
+pub mod Total
+pub mod Gap
+pub mod WakeCases
+pub mod Determined
+pub mod Numbers01

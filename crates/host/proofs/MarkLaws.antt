@@ -1,0 +1,103 @@
+-- Laws of silence and of the marks; a right group is never silent, for its last bit is 0. Assumes nothing.
+use mathlib.Core.Path.{_≡_, refl, ap, ap₂, _∙_}
+use mathlib.Core.Bool.{Bool, true, false}
+use mathlib.Core.List.{List, [], _∷_}
+use Prim.Native.Nat.{ℕ, zero, suc, _+_, _-_, _<_, _≤_}
+use native.Mathlib.Numerals.{add-one}
+use native.Mathlib.Omega.{arith}
+use borrow.Author.Tests.{eqb-true, eq-eqb, ne-eqb}
+use lib.Dec.{eqb}
+use lib.ListN.{length, getD, take, drop, replicate, getD-replicate, drop-of-length-le}
+use lib.Seq.{drop-cons, length-take-le}
+use Rattle.lent.specs.Refusal.{pick}
+use Rattle.lent.proofs.Tests.{and-left, and-right}
+use Rattle.pec.specs.Group.{right}
+use Rattle.pec.proofs.Group.{closing-zero}
+use Rattle.host.specs.Marks.{readMark, wrongMark, silentMark, silent, markOf, bytesOf}
+
+-- The search for a byte that is not 0xFF: one byte more; the byte is found; there is none.
+pub silent-step : (g : List ℕ) (i : ℕ) → i < length g → getD g i 0 ≡ 0xFF → silent (drop i g) ≡ silent (drop (i + 1) g)
+unfolding silent
+silent-step g i h e = rw (add-one, drop-cons g i 0, eq-eqb _ _ e)
+
+pub silent-not : (g : List ℕ) (i : ℕ) → i < length g → (getD g i 0 ≡ 0xFF → ⊥) → silent (drop i g) ≡ false
+unfolding silent
+silent-not g i h e = rw (drop-cons g i 0, ne-eqb _ _ e)
+
+pub silent-end : (g : List ℕ) (i : ℕ) → length g ≤ i → silent (drop i g) ≡ true
+unfolding silent
+silent-end g i h = rw drop-of-length-le
+
+-- silent, exactly if it is that many bytes 0xFF
+pub silent-all : (g : List ℕ) → silent g ≡ true → g ≡ replicate (length g) 0xFF
+unfolding silent
+silent-all [] s = refl
+silent-all (x ∷ xs) s = ap₂ _∷_ (eqb-true x 0xFF (and-left (eqb x 0xFF) (silent xs) s)) (silent-all xs (and-right (eqb x 0xFF) (silent xs) s))
+
+pub all-silent : (m : ℕ) → silent (replicate m 0xFF) ≡ true
+unfolding silent
+all-silent zero = refl
+all-silent (suc m) = all-silent m
+
+pub right-not-silent : (g : List ℕ) → 0 < length g → right g ≡ true → silent g ≡ false
+right-not-silent g h r = go (silent g) refl
+  where
+    last : silent g ≡ true → getD g (length g - 1) 0 ≡ 0xFF
+    last s = ap (λ (l : List ℕ). getD l (length g - 1) 0) (silent-all g s) ∙ getD-replicate (length g) (length g - 1) 0xFF 0 (omega arith)
+
+    go : (b : Bool) → silent g ≡ b → silent g ≡ false
+    go true s = absurd (omega (arith, last s, closing-zero g r))
+    go false s = s
+
+-- a group's six bytes, one by one
+pub first-six : (g : List ℕ) → length g ≡ 8 → getD g 0 0 ∷ getD g 1 0 ∷ getD g 2 0 ∷ getD g 3 0 ∷ getD g 4 0 ∷ getD g 5 0 ∷ [] ≡ take 6 g
+first-six [] h = absurd (omega arith)
+first-six (a ∷ []) h = absurd (omega arith)
+first-six (a ∷ b ∷ []) h = absurd (omega arith)
+first-six (a ∷ b ∷ c ∷ []) h = absurd (omega arith)
+first-six (a ∷ b ∷ c ∷ d ∷ []) h = absurd (omega arith)
+first-six (a ∷ b ∷ c ∷ d ∷ e ∷ []) h = absurd (omega arith)
+first-six (a ∷ b ∷ c ∷ d ∷ e ∷ f ∷ g) h = refl
+
+-- The three marks, and what goes with them.
+module _ (g : List ℕ) where
+  pub mark-silent : silent g ≡ true → markOf g ≡ silentMark
+  unfolding markOf pick
+  mark-silent s = rw s
+
+  pub mark-read : silent g ≡ false → right g ≡ true → markOf g ≡ readMark
+  unfolding markOf pick
+  mark-read s r = rw (s, r)
+
+  pub mark-wrong : silent g ≡ false → right g ≡ false → markOf g ≡ wrongMark
+  unfolding markOf pick
+  mark-wrong s r = rw (s, r)
+
+  pub bytes-read : markOf g ≡ readMark → bytesOf g ≡ take 6 g
+  unfolding bytesOf pick
+  bytes-read e = rw e
+
+  pub bytes-none : (markOf g ≡ readMark → ⊥) → bytesOf g ≡ replicate 6 0x00
+  unfolding bytesOf pick
+  bytes-none e = rw (ne-eqb _ _ e)
+
+-- a group is read exactly if it is right
+pub read-if-right : (g : List ℕ) → 0 < length g → right g ≡ true → markOf g ≡ readMark
+read-if-right g h r = mark-read g (right-not-silent g h r) r
+
+pub right-if-read : (g : List ℕ) → markOf g ≡ readMark → right g ≡ true
+unfolding markOf pick
+right-if-read g e = go (silent g) (right g) e
+  where
+    go : (s r : Bool) → pick s silentMark (pick r readMark wrongMark) ≡ readMark → r ≡ true
+    go s true e = refl
+    go true false e = absurd (omega arith)
+    go false false e = absurd (omega arith)
+
+pub length-bytesOf : (g : List ℕ) → length g ≡ 8 → length (bytesOf g) ≡ 6
+unfolding bytesOf pick
+length-bytesOf g h = go (eqb (markOf g) readMark)
+  where
+    go : (b : Bool) → length (pick b (take 6 g) (replicate 6 0x00)) ≡ 6
+    go true = length-take-le 6 g (omega arith)
+    go false = refl

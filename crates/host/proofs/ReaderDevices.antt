@@ -1,0 +1,91 @@
+-- Each device stands alone: its mark and its six bytes are those of its own eight bytes of the reply. Assumes nothing.
+use mathlib.Core.Path.{_≡_, refl, sym, ap, ap₂, _∙_}
+use mathlib.Core.Bool.{Bool, true, false}
+use mathlib.Core.Logic.{⊎-elim}
+use mathlib.Core.List.{List, [], _∷_, _++_}
+use Prim.Native.Nat.{ℕ, zero, suc, _+_, _*_, _≤_, _<_}
+use native.Mathlib.Nat.{le-of-suc-le-suc, not-suc-le-zero, eq-or-lt-of-le}
+use native.Mathlib.Omega.{arith}
+use borrow.Author.Tests.{eqb-true}
+use lib.Dec.{eqb}
+use lib.ListN.{length, getD, drop, length-drop, List·getD-append}
+use lib.Seq.{getD-at, drop-at, take-all, drop-append-le, take-append-le}
+use Rattle.lent.specs.Refusal.{pick}
+use Rattle.lent.specs.Memory.{over}
+use Rattle.frames.specs.Places.{six, eight}
+use Rattle.host.specs.Marks.{markOf, bytesOf}
+use Rattle.host.specs.Reader.{allBytes, allMarks, readerNumber, readerBytes, readerMarks, HandsOut}
+use Rattle.host.proofs.MarkLaws.{length-bytesOf}
+use Rattle.host.proofs.ReaderLaws.{length-eight, length-allBytes, length-allMarks}
+use Rattle.host.proofs.ReaderNumbers.{reply-length}
+
+-- Device k's share of what n devices give.
+pub mark-at : (n k : ℕ) (reply : List ℕ) → k < n → getD (allMarks n reply) k 0 ≡ markOf (eight k reply)
+unfolding allMarks
+mark-at zero k reply h = absurd (not-suc-le-zero h)
+mark-at (suc n) k reply h =
+    let long = length-allMarks n reply in
+    ⊎-elim
+    (λ e. getD-at (allMarks n reply) (markOf (eight n reply)) [] 0 k (omega arith) ∙ ap (λ (j : ℕ). markOf (eight j reply)) (sym e))
+    (λ l. List·getD-append (allMarks n reply) (markOf (eight n reply) ∷ []) 0 k (omega arith) ∙ mark-at n k reply l)
+    (eq-or-lt-of-le (le-of-suc-le-suc h))
+
+six-front : (k : ℕ) (xs ys : List ℕ) → 6 * k + 6 ≤ length xs → six k (xs ++ ys) ≡ six k xs
+unfolding six
+six-front k xs ys h =
+    rw (drop-append-le (6 * k) xs ys (omega arith)) (take-append-le 6 (drop (6 * k) xs) ys (omega (arith, length-drop (6 * k) xs)))
+
+six-last : (k : ℕ) (xs ys : List ℕ) → length xs ≡ 6 * k → length ys ≡ 6 → six k (xs ++ ys) ≡ ys
+unfolding six
+six-last k xs ys h e = rw (drop-at xs ys (6 * k) h) (take-all 6 ys (omega arith))
+
+pub six-at : (n k : ℕ) (reply : List ℕ) → k < n → 4 + 8 * n ≤ length reply → six k (allBytes n reply) ≡ bytesOf (eight k reply)
+unfolding allBytes
+six-at zero k reply h r = absurd (not-suc-le-zero h)
+six-at (suc n) k reply h r =
+    let long = length-allBytes n reply (omega arith) in
+    let six-bytes = length-bytesOf (eight n reply) (length-eight n reply (omega arith)) in
+    ⊎-elim
+    (λ e. six-last k (allBytes n reply) (bytesOf (eight n reply)) (omega arith) six-bytes ∙ ap (λ (j : ℕ). bytesOf (eight j reply)) (sym e))
+    (λ l. six-front k (allBytes n reply) (bytesOf (eight n reply)) (omega arith) ∙ six-at n k reply l (omega arith))
+    (eq-or-lt-of-le (le-of-suc-le-suc h))
+
+-- Device k's share of the lent memory at exit, for all inputs.
+module _ (n code : ℕ) (reply bytes marks : List ℕ) (r : ℕ) (bytes′ marks′ : List ℕ) (k : ℕ) where
+  pub device-mark : HandsOut n code reply bytes marks r bytes′ marks′ → k < n
+      → getD marks′ k 0 ≡ pick (eqb r 0) (markOf (eight k reply)) (getD marks k 0)
+  unfolding readerMarks over pick
+  device-mark h l = ap (λ (m : List ℕ). getD m k 0) (h .marksOut) ∙ go (eqb r 0)
+    where
+      go : (b : Bool) → getD (pick b (over (allMarks n reply) marks) marks) k 0 ≡ pick b (markOf (eight k reply)) (getD marks k 0)
+      go true = List·getD-append (allMarks n reply) (drop (length (allMarks n reply)) marks) 0 k (omega (arith, length-allMarks n reply)) ∙ mark-at n k reply l
+      go false = refl
+
+  pub device-bytes : HandsOut n code reply bytes marks r bytes′ marks′ → k < n
+      → six k bytes′ ≡ pick (eqb r 0) (bytesOf (eight k reply)) (six k bytes)
+  unfolding readerBytes over pick
+  device-bytes h l = ap (six k) (h .bytesOut) ∙ go (eqb r 0) refl
+    where
+      long : eqb r 0 ≡ true → length reply ≡ 4 + 8 * n
+      long e = reply-length n code (length reply) (length bytes) (length marks) (sym (h .number) ∙ eqb-true r 0 e)
+
+      go : (b : Bool) → eqb r 0 ≡ b → six k (pick b (over (allBytes n reply) bytes) bytes) ≡ pick b (bytesOf (eight k reply)) (six k bytes)
+      go true e =
+          six-front k (allBytes n reply) (drop (length (allBytes n reply)) bytes) (omega (arith, length-allBytes n reply (omega (arith, long e))))
+          ∙ six-at n k reply l (omega (arith, long e))
+      go false e = refl
+
+-- Two replies that agree in device k's eight bytes give it the same mark and the same six bytes, whatever the other devices sent.
+pub each-alone : (n code : ℕ) (reply reply′ bytes marks : List ℕ) (r r′ : ℕ) (b b′ m m′ : List ℕ) (k : ℕ)
+    → HandsOut n code reply bytes marks r b m → HandsOut n code reply′ bytes marks r′ b′ m′
+    → length reply ≡ length reply′ → k < n → eight k reply ≡ eight k reply′
+    → (getD m k 0 ≡ getD m′ k 0) × (six k b ≡ six k b′)
+each-alone n code reply reply′ bytes marks r r′ b b′ m m′ k h h′ long l own =
+    let same : r ≡ r′ = h .number ∙ ap (λ (x : ℕ). readerNumber n code x (length bytes) (length marks)) long ∙ sym (h′ .number) in (
+      device-mark n code reply bytes marks r b m k h l
+          ∙ ap₂ (λ (x : ℕ) (g : List ℕ). pick (eqb x 0) (markOf g) (getD marks k 0)) same own
+          ∙ sym (device-mark n code reply′ bytes marks r′ b′ m′ k h′ l),
+      device-bytes n code reply bytes marks r b m k h l
+          ∙ ap₂ (λ (x : ℕ) (g : List ℕ). pick (eqb x 0) (bytesOf g) (six k bytes)) same own
+          ∙ sym (device-bytes n code reply′ bytes marks r′ b′ m′ k h′ l),
+    )

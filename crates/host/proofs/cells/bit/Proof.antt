@@ -1,0 +1,25 @@
+-- `host::cells::bit`: a 1 moved up, of which nothing is lost. Assumes nothing.
+use mathlib.Core.Path.{_∙_}
+use native.Mathlib.Omega.{arith}
+use borrow.Author.Needs.{needs}
+use lib.Pow.{shl-exact}
+use Rattle.lent.specs.Refusal.{pick}
+use Rattle.host.proofs.cells.bit.Statement.{statement}
+use Rattle.host.proofs.cells.bit.Tie as tie
+
+cast-result : tie.Need-cast-result
+cast-result c = search needs
+
+shl-result : tie.Need-shl-result
+shl-result c = search needs
+
+returns : tie.Need-returns
+unfolding pick
+returns c = rw (c .if1 .taken) (shl-exact 1 (c .before .args .cell) 32 (omega arith) (omega arith) ∙ omega arith)
+
+returns-2 : tie.Need-returns-2
+unfolding pick
+returns-2 c = rw (c .if1 .left)
+
+pub bit-spec : {M : Type 1} → statement M
+bit-spec = tie.close (tie.spec cast-result shl-result returns returns-2)

@@ -1,0 +1,61 @@
+-- `host::extremes::is_taken`: by its tests. Assumes nothing.
+use mathlib.Core.Path.{sym, _∙_}
+use borrow.Author.Tests.{eq-eqb, ne-eqb, not-true, not-false}
+use Rattle.host.specs.Extremes.{countOfCell, takes}
+use borrow.Author.Needs.{needs}
+use Rattle.host.proofs.extremes.is_taken.Statement.{statement}
+use Rattle.host.proofs.extremes.is_taken.Tie as tie
+
+is-set-requires : tie.Need-is-set-requires
+is-set-requires c κs = search needs
+
+returns : tie.Need-returns
+unfolding takes
+returns c = simp (sym (c .before .is-set .ensures) ∙ not-true (c .before .is-set .result) (c .if1 .taken))
+
+returns-2 : tie.Need-returns-2
+unfolding takes
+returns-2 c =
+    simp (sym (c .before .before .is-set .ensures) ∙ not-false (c .before .before .is-set .result) (c .before .if1 .left), eq-eqb _ _ (c .if2 .taken))
+
+mul-is-further : tie.Need-mul-is-further
+mul-is-further c = search needs
+
+element-copy-out-is-further : tie.Need-element-copy-out-is-further
+element-copy-out-is-further c = search needs
+
+sub-is-further : tie.Need-sub-is-further
+sub-is-further c = search needs
+
+mul-is-further-2 : tie.Need-mul-is-further-2
+mul-is-further-2 c = search needs
+
+element-copy-out-is-further-2 : tie.Need-element-copy-out-is-further-2
+element-copy-out-is-further-2 c = search needs
+
+is-further-requires : tie.Need-is-further-requires
+is-further-requires c κs = search needs
+
+returns-3 : tie.Need-returns-3
+unfolding takes countOfCell
+returns-3 c =
+    simp (
+      sym (c .before .before .before .before .before .is-set .ensures) ∙ not-false (c .before .before .before .before .before .is-set .result) (c .before .before .before .before .if1 .left),
+      ne-eqb _ _ (c .before .before .before .if2 .left),
+    )
+    (c .is-further .ensures)
+
+pub is-taken-spec : {M : Type 1} → statement M
+is-taken-spec =
+    tie.close
+    (tie.spec
+    is-set-requires
+    returns
+    returns-2
+    mul-is-further
+    element-copy-out-is-further
+    sub-is-further
+    mul-is-further-2
+    element-copy-out-is-further-2
+    is-further-requires
+    returns-3)

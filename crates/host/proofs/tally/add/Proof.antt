@@ -1,0 +1,61 @@
+-- `host::tally::add` meets its contract: each return is a case of `Adds`. Assumes nothing.
+use mathlib.Core.Path.{sym, _∙_}
+use borrow.Author.Needs.{needs}
+use Rattle.frames.proofs.Sizes.{at-most}
+use Rattle.host.proofs.TallyCases.{refused-1, refused-3, refused-8, added}
+use Rattle.host.proofs.tally.add.Statement.{statement}
+use Rattle.host.proofs.tally.add.Tie as tie
+
+outside-requires : tie.Need-outside-requires
+outside-requires c κs = search needs
+
+returns : tie.Need-returns
+returns c = refused-1 _ _ (sym (c .before .outside .ensures) ∙ c .if1 .taken)
+
+any-above-requires : tie.Need-any-above-requires
+any-above-requires c κs = search needs
+
+returns-2 : tie.Need-returns-2
+returns-2 c =
+    refused-3 _ _ (sym (c .before .before .before .outside .ensures) ∙ c .before .before .if1 .left) (sym (c .before .any-above .ensures) ∙ c .if2 .taken)
+
+count-all-requires : tie.Need-count-all-requires
+count-all-requires c κs = at-most _ (sym (c .before .before .before .outside .ensures) ∙ c .before .before .if1 .left)
+
+passes-any-requires : tie.Need-passes-any-requires
+passes-any-requires c κs = search needs
+
+returns-3 : tie.Need-returns-3
+returns-3 c =
+    refused-8 _ _ (sym (c .before .before .before .before .before .before .outside .ensures) ∙ c .before .before .before .before .before .if1 .left)
+    (sym (c .before .before .before .before .any-above .ensures) ∙ c .before .before .before .if2 .left)
+    _
+    (c .before .before .count-all .ensures)
+    (sym (c .before .passes-any .ensures) ∙ c .if3 .taken)
+
+sum-requires : tie.Need-sum-requires
+sum-requires c κs = sym (c .before .passes-any .ensures) ∙ c .if3 .left
+
+returns-4 : tie.Need-returns-4
+returns-4 c =
+    added _ _ (sym (c .before .before .before .before .before .before .before .outside .ensures) ∙ c .before .before .before .before .before .before .if1 .left)
+    (sym (c .before .before .before .before .before .any-above .ensures) ∙ c .before .before .before .before .if2 .left)
+    _
+    (c .before .before .before .count-all .ensures)
+    _
+    (sym (c .before .before .passes-any .ensures) ∙ c .before .if3 .left)
+    (c .sum .ensures)
+
+pub add-spec : {M : Type 1} → statement M
+add-spec =
+    tie.close
+    (tie.spec
+    outside-requires
+    returns
+    any-above-requires
+    returns-2
+    count-all-requires
+    passes-any-requires
+    returns-3
+    sum-requires
+    returns-4)

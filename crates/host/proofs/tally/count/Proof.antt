@@ -1,0 +1,50 @@
+-- `host::tally::count` meets its contract. The loop's invariant: what is counted, with the count of the marks left, is the count of all. Assumes nothing.
+use mathlib.Core.Path.{_≡_}
+use mathlib.Core.Logic.{⊎-elim}
+use Prim.Native.Nat.{_≤_, _+_, _-_}
+use native.Mathlib.Omega.{arith}
+use lib.ListN.{length, drop}
+use Rattle.host.specs.Marks.{countOf}
+use Rattle.host.proofs.Sorts.{count-here, count-later, count-none}
+use Rattle.host.proofs.tally.count.Statement.{statement}
+use Rattle.host.proofs.tally.count.Tie as tie
+
+abbrev Inv-loop : tie.InvT-loop
+Inv-loop reply sort n₀ i₀ n i = (i ≤ length reply) × (n ≤ i) × (n + countOf sort (drop i reply) ≡ countOf sort reply)
+
+abbrev μ-loop : tie.MeasureT-loop
+μ-loop reply sort n₀ i₀ n i = length reply - i
+
+loop-holds : tie.Need-loop-holds Inv-loop μ-loop
+loop-holds c = (omega arith, omega arith, omega arith)
+
+shared-slice-read-if1 : tie.Need-shared-slice-read-if1 Inv-loop μ-loop
+shared-slice-read-if1 c = omega arith
+
+add-n : tie.Need-add-n Inv-loop μ-loop
+add-n c = omega arith
+
+add-i : tie.Need-add-i Inv-loop μ-loop
+add-i c = omega arith
+
+loop-less : tie.Need-loop-less Inv-loop μ-loop
+loop-less c = omega arith
+
+loop-again : tie.Need-loop-again Inv-loop μ-loop
+loop-again c =
+    let reply = c .before .before .before .before .args .reply .now in
+    let sort = c .before .before .before .before .args .sort in
+    let i = c .before .before .before .loop .i in
+    let lt = c .before .before .loop-test .taken in
+    ⊎-elim
+    (λ w. (omega arith, omega arith, omega (arith, count-here reply i sort lt (w .0 .taken))))
+    (λ w. (omega arith, omega arith, omega (arith, count-later reply i sort lt (w .0 .left))))
+    (c .if1 .came)
+
+returns : tie.Need-returns Inv-loop μ-loop
+returns c = omega (arith, count-none (c .before .before .args .reply .now) (c .before .loop .i) (c .before .before .args .sort) (c .loop-test .left))
+
+pub count-spec : {M : Type 1} → statement M
+count-spec =
+    tie.close
+    (tie.spec Inv-loop μ-loop loop-holds shared-slice-read-if1 add-n add-i loop-less loop-again returns)
