@@ -1,0 +1,144 @@
+-- THE DEMANDS, met by our rig: demand 3 by its frames one after the other, demand 2 as the quiet case of it. Assumes nothing.
+use mathlib.Core.Path.{_≡_, refl, sym, ap, ap₂, _∙_}
+use mathlib.Core.Bool.{Bool, true, false, not, _||_}
+use mathlib.Core.List.{List, [], _∷_}
+use Prim.Native.Nat.{ℕ, _+_, _*_, _-_, _^_, _≤_, _<_}
+use native.Mathlib.Omega.{arith}
+use borrow.Author.Tests.{eqb-true}
+use lib.ListN.{length, getD, replicate, length-replicate, getD-replicate}
+use lib.Seq.{ext-getD}
+use Rattle.lent.specs.Bytes.{Bytes}
+use Rattle.lent.specs.Memory.{over}
+use Rattle.lent.proofs.Pick.{pick-false}
+use Rattle.pec.specs.Noise.{hit}
+use Rattle.pec.proofs.Mask.{unhit-take, unhit-part}
+use Rattle.frames.specs.Kind.{dataNeeded, frameLength}
+use Rattle.frames.specs.Places.{six, wire, eight}
+use Rattle.frames.proofs.Lookup.{group-below}
+use Rattle.frames.proofs.Sizes.{at-least, at-most}
+use Rattle.frames.proofs.FrameParts as FrameParts
+use Rattle.chain.specs.State.{stateLength, stored}
+use Rattle.chain.proofs.WriteLaws.{bits-all}
+use Rattle.host.specs.Reader.{allBytes, allMarks}
+use Rattle.host.proofs.ReaderLaws.{length-allMarks}
+use Rattle.link.specs.Rig.{ours}
+use Rattle.link.specs.Sending.{Sending, kind, group, Fair}
+use Rattle.link.specs.Step.{arrives, returns, step}
+use Rattle.link.specs.Promise.{lost, missed, unread, sweeps, Obeys}
+use Rattle.link.specs.Demands.{Demand3, Quiet, held, Undisturbed, after, Demand2}
+use Rattle.link.proofs.Held.{six-ext, length-held, six-held}
+use Rattle.link.proofs.WriteFrame.{bytes-long, word-write, wire-right}
+use Rattle.link.proofs.ReadFrame.{returns-long, marks-given, bytes-given, bytes-size, getD-over, six-over}
+use Rattle.link.proofs.OneFrame.{obeys, size, are-bytes}
+
+pub demand3 : Demand3 ours
+demand3 n a b state are whole [] fair = tt
+demand3 n a b state are whole (s ∷ ss) fair = (
+  obeys n a b s state (fair .0) are whole,
+  demand3 n a b (step ours n s state .registers) (are-bytes n a b s state (fair .0) are whole) (size n a b s state (fair .0) are whole) ss (fair .1),
+)
+
+-- a quiet frame: nothing of it was hit
+quiet-lost : (s : Sending) → hit (s .forth) ≡ false → lost s ≡ false
+unfolding lost
+quiet-lost s e = unhit-take 4 (s .forth) e
+
+quiet-wire : (n : ℕ) (s : Sending) (k : ℕ) → hit (s .forth) ≡ false → hit (wire n k (s .forth)) ≡ false
+unfolding wire
+quiet-wire n s k e = unhit-part 8 (4 + 8 * (n - 1 - k)) (s .forth) e
+
+quiet-missed : (n : ℕ) (s : Sending) (k : ℕ) → hit (s .forth) ≡ false → missed n s k ≡ false
+unfolding missed
+quiet-missed n s k e = ap₂ (λ (a b : Bool). a || b) (quiet-lost s e) (quiet-wire n s k e)
+
+quiet-unread : (s : Sending) (k : ℕ) → hit (s .forth) ≡ false → hit (s .back) ≡ false → unread s k ≡ false
+unfolding unread eight
+quiet-unread s k e f = ap₂ (λ (a b : Bool). a || b) (quiet-lost s e) (unhit-part 8 (4 + 8 * k) (s .back) f)
+
+module _ (n : ℕ) (a : 1 ≤ n) (b : n ≤ 16) (state : List ℕ) (are : Bytes state) (whole : length state ≡ stateLength n) (s : Sending) (F : Fair n s) (quiet : Quiet s) where
+  O : Obeys ours n s state (step ours n s state)
+  O = obeys n a b s state F are whole
+
+  good : lost s ≡ false
+  good = quiet-lost s (quiet .0)
+
+  g18 : group s < 18
+  g18 = group-below (s .code)
+
+  word-full : kind s ≡ 1 → step ours n s state .word ≡ 2 ^ n - 1
+  word-full w =
+      word-write n a b s state F are whole w good
+      ∙ bits-all n n (arrives ours n s) (λ k h. wire-right n a b s state F are whole w k h ∙ ap not (quiet-wire n s k (quiet .0)))
+
+  stores : kind s ≡ 1 → held n (group s) (step ours n s state .registers) ≡ s .bytes
+  stores w =
+      six-ext n (held n (group s) (step ours n s state .registers)) (s .bytes)
+      (length-held n (group s) (step ours n s state .registers) g18 (O .size) n (omega arith)) (bytes-long n a b s state F are whole w)
+      (λ k h. six-held n (group s) (step ours n s state .registers) g18 (O .size) n k (omega arith) h
+      ∙ O .write w .own k h ∙ pick-false (missed n s k) (stored k (group s) state) (six k (s .bytes)) (quiet-missed n s k (quiet .0)))
+
+  sets : kind s ≡ 3 → (k h : ℕ) → k < n → h < 18 → sweeps (s .code) h ≡ true → stored k h (step ours n s state .registers) ≡ replicate 6 255
+  sets c k h lk lh e =
+      O .clear c .all k h lk lh
+      ∙ pick-false (lost s || not (sweeps (s .code) h)) (stored k h state) (replicate 6 255) (ap₂ (λ (x y : Bool). x || not y) good e)
+
+  module _ (q : kind s ≡ 2) where
+    abbrev back : List ℕ
+    back = returns ours n s state
+
+    one : (k : ℕ) → k < n → six k (allBytes n back) ≡ six k (held n (group s) state)
+    unfolding step
+    one k h =
+        sym (six-over (allBytes n back) (s .read) k (omega (arith, bytes-size n a b s state F are whole q)))
+        ∙ ap (six k) (sym (bytes-given n a b s state F are whole q))
+        ∙ O .read q .bytes k h
+        ∙ pick-false (unread s k) (replicate 6 0) (stored k (group s) state) (quiet-unread s k (quiet .0) (quiet .1))
+        ∙ sym (six-held n (group s) state g18 whole n k (omega arith) h)
+
+    gives : step ours n s state .bytes ≡ over (held n (group s) state) (s .read)
+    unfolding step
+    gives =
+        bytes-given n a b s state F are whole q
+        ∙ ap (λ (x : List ℕ). over x (s .read))
+        (six-ext n (allBytes n back) (held n (group s) state) (bytes-size n a b s state F are whole q) (length-held n (group s) state g18 whole n (omega arith)) one)
+
+    zero-mark : (k : ℕ) → k < n → getD (allMarks n back) k 0 ≡ 0
+    unfolding step
+    zero-mark k h =
+        sym (getD-over (allMarks n back) (s .marks) k (omega (arith, length-allMarks n back)))
+        ∙ ap (λ (x : List ℕ). getD x k 0) (sym (marks-given n a b s state F are whole q))
+        ∙ eqb-true (getD (step ours n s state .marks) k 0) 0 (O .read q .mark k h ∙ ap not (quiet-unread s k (quiet .0) (quiet .1)))
+
+    marks : step ours n s state .marks ≡ over (replicate n 0) (s .marks)
+    unfolding step
+    marks =
+        marks-given n a b s state F are whole q
+        ∙ ap (λ (x : List ℕ). over x (s .marks))
+        (ext-getD 0 (allMarks n back) (replicate n 0) (length-allMarks n back ∙ sym (length-replicate n 0))
+        (λ i h. zero-mark i (omega (arith, length-allMarks n back)) ∙ sym (getD-replicate n i 0 0 (omega (arith, length-allMarks n back)))))
+
+  undisturbed : Undisturbed n s state (step ours n s state)
+  undisturbed = record {
+    made = O .made;
+    number = O .number ∙ pick-false (lost s) 4 0 good;
+    write = λ w. (word-full w, stores w);
+    clear = λ c. (O .clear c .word ∙ pick-false (lost s) 0 (2 ^ n - 1) good, sets c);
+    read = λ q. (gives q, marks q);
+  }
+
+pub demand2 : Demand2 ours
+demand2 n a b state are whole = (
+  λ s F quiet. undisturbed n a b state are whole s F quiet,
+  λ w r Fw Fr qw qr kw kr g.
+      let Ow = obeys n a b w state Fw are whole in
+      let uw = undisturbed n a b state are whole w Fw qw in
+      let ur = undisturbed n a b (after ours n w state) (Ow .are-bytes) (Ow .size) r Fr qr in
+      (ur .read kr .0 ∙ ap (λ (x : List ℕ). over x (r .read)) (ap (λ (x : ℕ). held n x (after ours n w state)) (sym g) ∙ uw .write kw .1), ur .read kr .1),
+)
+
+-- WHAT OUR WRITER ACCEPTS is just such a frame: a command of the table, with its data and room, for 1 to 16 devices. (That it makes one is Obeys.made.)
+pub only-made : (n : ℕ) (s : Sending) → ours .writer n (s .code) (s .bytes) (s .out) .number ≡ 0
+    → (1 ≤ n) × (n ≤ 16) × (kind s ≡ 0 → ⊥) × (length (s .bytes) ≡ dataNeeded n (kind s)) × (frameLength n (kind s) ≤ length (s .out))
+only-made n s e =
+    let m = FrameParts.made n (s .code) (length (s .bytes)) (length (s .out)) e in
+    (at-least n (m .size), at-most n (m .size), m .known, m .needed, m .room)

@@ -1,0 +1,54 @@
+-- Six bytes for each device, one device after the other: two such lists are equal where they agree at each device. Assumes nothing.
+use mathlib.Core.Path.{_≡_, refl, sym, ap, ap₂, _∙_, subst}
+use mathlib.Core.Logic.{⊎-elim}
+use mathlib.Core.List.{List, _++_}
+use Prim.Native.Nat.{ℕ, zero, suc, _+_, _*_, _/_, _%_, _≤_, _<_}
+use native.Mathlib.Nat.{le-of-suc-le-suc, eq-or-lt-of-le}
+use native.Mathlib.Omega.{arith}
+use lib.ListN.{length, take, drop, length-append, length-drop}
+use lib.Seq.{take-add, take-all, drop-at, drop-append-le, take-append-le}
+use Rattle.frames.specs.Places.{six}
+use Rattle.chain.specs.State.{stateLength, spot, stored}
+use Rattle.chain.proofs.StateLaws.{length-stored}
+use Rattle.link.specs.Demands.{held}
+
+six-same : (n : ℕ) (x y : List ℕ) → ((k : ℕ) → k < n → six k x ≡ six k y) → (j : ℕ) → j ≤ n → take (6 * j) x ≡ take (6 * j) y
+unfolding six
+six-same n x y h zero l = refl
+six-same n x y h (suc j) l =
+    let e : 6 * suc j ≡ 6 * j + 6 = omega arith in
+    ap (λ (i : ℕ). take i x) e ∙ take-add (6 * j) 6 x
+    ∙ ap₂ (λ (a b : List ℕ). a ++ b) (six-same n x y h j (omega arith)) (h j l)
+    ∙ sym (take-add (6 * j) 6 y) ∙ ap (λ (i : ℕ). take i y) (sym e)
+
+pub six-ext : (n : ℕ) (x y : List ℕ) → length x ≡ 6 * n → length y ≡ 6 * n → ((k : ℕ) → k < n → six k x ≡ six k y) → x ≡ y
+six-ext n x y lx ly h = sym (take-all (6 * n) x (omega arith)) ∙ six-same n x y h n (omega arith) ∙ take-all (6 * n) y (omega arith)
+
+-- two states that agree in every group of every device are equal
+pub stored-ext : (n : ℕ) (x y : List ℕ) → length x ≡ stateLength n → length y ≡ stateLength n → ((k h : ℕ) → k < n → h < 18 → stored k h x ≡ stored k h y) → x ≡ y
+unfolding stored spot six stateLength
+stored-ext n x y lx ly e =
+    six-ext (18 * n) x y (omega arith) (omega arith)
+    (λ i h. let p : 108 * (i / 18) + 6 * (i % 18) ≡ 6 * i = omega arith in
+    ap (λ (j : ℕ). take 6 (drop j x)) (sym p) ∙ e (i / 18) (i % 18) (omega arith) (omega arith) ∙ ap (λ (j : ℕ). take 6 (drop j y)) p)
+
+module _ (n g : ℕ) (state : List ℕ) (hg : g < 18) (whole : length state ≡ stateLength n) where
+  pub length-held : (j : ℕ) → j ≤ n → length (held j g state) ≡ 6 * j
+  unfolding held
+  length-held zero h = refl
+  length-held (suc j) h =
+      length-append (held j g state) (stored j g state) ∙ omega (arith, length-held j (omega arith), length-stored n j g state h hg whole)
+
+  pub six-held : (j k : ℕ) → j ≤ n → k < j → six k (held j g state) ≡ stored k g state
+  unfolding held six
+  six-held zero k h a = absurd (omega arith)
+  six-held (suc j) k h a =
+      let e = length-held j (omega arith) in
+      let q = length-stored n j g state h hg whole in
+      ⊎-elim
+      (λ c. subst (λ (i : ℕ). take 6 (drop (6 * i) (held j g state ++ stored j g state)) ≡ stored i g state) (sym c)
+      (ap (take 6) (drop-at (held j g state) (stored j g state) (6 * j) e) ∙ take-all 6 (stored j g state) (omega arith)))
+      (λ c. ap (take 6) (drop-append-le (6 * k) (held j g state) (stored j g state) (omega arith))
+      ∙ take-append-le 6 (drop (6 * k) (held j g state)) (stored j g state) (omega (arith, length-drop (6 * k) (held j g state)))
+      ∙ six-held j k (omega arith) c)
+      (eq-or-lt-of-le (le-of-suc-le-suc a))

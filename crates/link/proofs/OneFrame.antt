@@ -1,0 +1,91 @@
+-- One fair frame: what happens is what is promised. Assumes nothing.
+use mathlib.Core.Path.{_≡_, refl, sym, ap, ap₂, _∙_, subst, fun-ext}
+use mathlib.Core.Bool.{Bool, true, false}
+use mathlib.Core.Logic.{_⊎_, inl, inr, ⊎-elim}
+use mathlib.Core.List.{List}
+use Prim.Native.Nat.{ℕ, zero, suc, _≤_, _<_}
+use native.Mathlib.Omega.{arith}
+use lib.ListN.{length, take, replicate}
+use Rattle.lent.specs.Bytes.{Bytes}
+use Rattle.lent.specs.Refusal.{pick}
+use Rattle.pec.specs.Noise.{noisy, hit}
+use Rattle.pec.proofs.Mask.{unhit-same, unhit-zeros}
+use Rattle.frames.proofs.Lookup.{kind-below}
+use Rattle.chain.specs.State.{stateLength}
+use Rattle.host.specs.Reader.{readerBytes, readerMarks}
+use Rattle.host.proofs.ReaderNumbers.{number-7}
+use Rattle.link.specs.Rig.{Served, Handed, ours}
+use Rattle.link.specs.Sending.{Sending, kind, Fair}
+use Rattle.link.specs.Step.{frame, arrives, serves, returns, hands, Seen, gathered, step, calm}
+use Rattle.link.specs.Promise.{lost, Obeys}
+use Rattle.link.proofs.Arrival as Arrival
+use Rattle.link.proofs.WriteFrame.{writes, write-size, write-bytes}
+use Rattle.link.proofs.ReadFrame.{reads, kept}
+use Rattle.link.proofs.ClearFrame.{clears, clear-size, clear-bytes}
+
+-- the step over what the two ways do to bytes
+stepBy : ℕ → Sending → List ℕ → (List ℕ → List ℕ) → (List ℕ → List ℕ) → Seen
+stepBy n s state forth back =
+    let c : Served = ours .chain n (forth (frame ours n s)) state (s .reply) in
+    let h : Handed = ours .reader n (s .code) (back (take (length (frame ours n s)) (c .reply))) (s .read) (s .marks) in
+    gathered (ours .writer n (s .code) (s .bytes) (s .out)) c h
+
+same-as-zeros : (m : List ℕ) → hit m ≡ false → noisy m ≡ noisy (replicate (length m) 0)
+same-as-zeros m e = fun-ext (λ x. unhit-same m x e ∙ sym (unhit-same (replicate (length m) 0) x (unhit-zeros (length m))))
+
+-- A frame not hit is handled as if noise had never come. Nothing else is asked of it.
+unhit : (n : ℕ) (s : Sending) (state : List ℕ) → hit (s .forth) ≡ false → hit (s .back) ≡ false → step ours n s state ≡ step ours n (calm s) state
+unfolding step stepBy arrives serves returns hands calm frame
+unhit n s state p q = ap₂ (stepBy n s state) (same-as-zeros (s .forth) p) (same-as-zeros (s .back) q)
+
+-- a known kind is one of three
+three : (k : ℕ) → k < 4 → (k ≡ 0 → ⊥) → (k ≡ 1) ⊎ ((k ≡ 2) ⊎ (k ≡ 3))
+three zero h z = absurd (z refl)
+three (suc zero) h z = inl refl
+three (suc (suc zero)) h z = inr (inl refl)
+three (suc (suc (suc zero))) h z = inr (inr refl)
+three (suc (suc (suc (suc k)))) h z = absurd (omega arith)
+
+module _ (n : ℕ) (n1 : 1 ≤ n) (n16 : n ≤ 16) (s : Sending) (state : List ℕ) (F : Fair n s) (are : Bytes state) (whole : length state ≡ stateLength n) where
+  kinds : (kind s ≡ 1) ⊎ ((kind s ≡ 2) ⊎ (kind s ≡ 3))
+  kinds = three (kind s) (kind-below (s .code)) (F .known)
+
+  made : step ours n s state .made ≡ 0
+  unfolding step
+  made = Arrival.made n n1 n16 s state F whole
+
+  number : (b : Bool) → lost s ≡ b → step ours n s state .number ≡ pick b 4 0
+  unfolding step pick
+  number true e = Arrival.number-lost n n1 n16 s state F whole e
+  number false e = Arrival.number-good n n1 n16 s state F whole e
+
+  no-read : (kind s ≡ 2 → ⊥) → (step ours n s state .asked ≡ 7) × (step ours n s state .bytes ≡ s .read) × (step ours n s state .marks ≡ s .marks)
+  unfolding step hands readerBytes readerMarks pick
+  no-read other =
+      let e : hands ours n s state .number ≡ 7 =
+      number-7 n (s .code) (length (returns ours n s state)) (length (s .read)) (length (s .marks)) (Arrival.inside n n1 n16 s state F whole) (kind s) refl (F .known) other in
+      (e, ap (λ (a : ℕ). readerBytes a n (returns ours n s state) (s .read)) e, ap (λ (a : ℕ). readerMarks a n (returns ours n s state) (s .marks)) e)
+
+  pub size : length (step ours n s state .registers) ≡ stateLength n
+  size =
+      ⊎-elim (λ w. write-size n n1 n16 s state F are whole w (lost s) refl)
+      (⊎-elim (λ q. ap length (kept n n1 n16 s state F are whole q) ∙ whole) (λ c. clear-size n n1 n16 s state F are whole c (lost s) refl)) kinds
+
+  pub are-bytes : Bytes (step ours n s state .registers)
+  are-bytes =
+      ⊎-elim (λ w. write-bytes n n1 n16 s state F are whole w (lost s) refl)
+      (⊎-elim (λ q. subst Bytes (sym (kept n n1 n16 s state F are whole q)) are) (λ c. clear-bytes n n1 n16 s state F are whole c (lost s) refl)) kinds
+
+  pub obeys : Obeys ours n s state (step ours n s state)
+  obeys = record {
+    made = made;
+    number = number (lost s) refl;
+    size = size;
+    are-bytes = are-bytes;
+    kinds = kinds;
+    write = λ w. writes n n1 n16 s state F are whole w;
+    read = λ q. reads n n1 n16 s state F are whole q;
+    clear = λ c. clears n n1 n16 s state F are whole c;
+    no-read = no-read;
+    unhit = unhit n s state;
+  }

@@ -1,0 +1,65 @@
+-- Demand 3, over any run of frames; and demand 2, the quiet case with everything written out. Assumes nothing.
+use Prim.Native.Nat.{ℕ, zero, suc, _-_, _^_, _<_, _≤_}
+use mathlib.Core.Path.{_≡_}
+use mathlib.Core.Bool.{true, false}
+use mathlib.Core.List.{List, [], _∷_, _++_}
+use lib.ListN.{length, replicate}
+use Rattle.lent.specs.Bytes.{Bytes}
+use Rattle.lent.specs.Memory.{over}
+use Rattle.pec.specs.Noise.{hit}
+use Rattle.chain.specs.State.{stateLength, stored}
+use Rattle.link.specs.Rig.{Rig}
+use Rattle.link.specs.Sending.{Sending, kind, group, Fair}
+use Rattle.link.specs.Step.{Seen, step}
+use Rattle.link.specs.Promise.{sweeps, Obeys}
+
+-- A run: each frame meets the registers that the one before it left.
+abbrev pub AllFair : ℕ → List Sending → Type 0
+AllFair n [] = Unit {0}
+AllFair n (s ∷ ss) = Fair n s × AllFair n ss
+
+abbrev pub run : Rig → ℕ → List ℕ → List Sending → List Seen
+run R n registers [] = []
+run R n registers (s ∷ ss) = step R n s registers ∷ run R n (step R n s registers .registers) ss
+
+-- what is seen against what was sent, one for one, each on the registers as they stand
+abbrev pub Obeyed : Rig → ℕ → List ℕ → List Sending → List Seen → Type 0
+Obeyed R n registers [] [] = Unit {0}
+Obeyed R n registers [] (r ∷ rs) = ⊥
+Obeyed R n registers (s ∷ ss) [] = ⊥
+Obeyed R n registers (s ∷ ss) (r ∷ rs) = Obeys R n s registers r × Obeyed R n (r .registers) ss rs
+
+-- DEMAND 3. "Take a chain in any state and any run of write, read and clear frames that our writer made for its size."
+abbrev pub Demand3 : Rig → Type 0
+Demand3 R =
+    (n : ℕ) → 1 ≤ n → n ≤ 16 → (state : List ℕ) → Bytes state → length state ≡ stateLength n
+    → (ss : List Sending) → AllFair n ss → Obeyed R n state ss (run R n state ss)
+
+-- DEMAND 2. "What our writer builds our chain obeys, and what the chain answers our reader gives back byte for byte."
+abbrev pub Quiet : Sending → Type 0
+Quiet s = (hit (s .forth) ≡ false) × (hit (s .back) ≡ false)
+
+-- the six bytes of devices 1 to k, one after the other
+unfoldable pub held : ℕ → ℕ → List ℕ → List ℕ
+held zero g state = []
+held (suc k) g state = held k g state ++ stored k g state
+
+pub record Undisturbed (n : ℕ) (s : Sending) (before : List ℕ) (r : Seen) : Type 0 where
+  pub made : r .made ≡ 0
+  pub number : r .number ≡ 0
+  pub write : kind s ≡ 1 → (r .word ≡ 2 ^ n - 1) × (held n (group s) (r .registers) ≡ s .bytes)
+  pub clear : kind s ≡ 3
+      → (r .word ≡ 2 ^ n - 1) × ((k h : ℕ) → k < n → h < 18 → sweeps (s .code) h ≡ true → stored k h (r .registers) ≡ replicate 6 255)
+  pub read : kind s ≡ 2 → (r .bytes ≡ over (held n (group s) before) (s .read)) × (r .marks ≡ over (replicate n 0) (s .marks))
+
+-- the registers that a frame leaves
+abbrev pub after : Rig → ℕ → Sending → List ℕ → List ℕ
+after R n s registers = step R n s registers .registers
+
+-- every quiet frame, and a write that is read back
+abbrev pub Demand2 : Rig → Type 0
+Demand2 R =
+    (n : ℕ) → 1 ≤ n → n ≤ 16 → (state : List ℕ) → Bytes state → length state ≡ stateLength n
+    → ((s : Sending) → Fair n s → Quiet s → Undisturbed n s state (step R n s state))
+    × ((w r : Sending) → Fair n w → Fair n r → Quiet w → Quiet r → kind w ≡ 1 → kind r ≡ 2 → group w ≡ group r
+    → (step R n r (after R n w state) .bytes ≡ over (w .bytes) (r .read)) × (step R n r (after R n w state) .marks ≡ over (replicate n 0) (r .marks)))
