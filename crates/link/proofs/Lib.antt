@@ -6,3 +6,5 @@ pub mod OneFrame
 pub mod Held
 pub mod DemandLaws
 pub mod Carrying
+pub mod StoryLaws
+pub mod CarryLaws

@@ -5,6 +5,7 @@ pub mod Rule
 pub mod Byte
 pub mod Burst
 pub mod Mask
+pub mod AnyFlips
 pub mod Group
 pub mod Noise
 pub mod Sharp

@@ -15,7 +15,7 @@ use Rattle.pec.specs.Register.{bits}
 use Rattle.pec.specs.Noise.{noisy, hit}
 use Rattle.pec.proofs.Linear.{xors}
 
-cons-eq : {x y : ℕ} {xs ys : List ℕ} → x ≡ y → xs ≡ ys → _≡_ {A = List ℕ} (x ∷ xs) (y ∷ ys)
+pub cons-eq : {x y : ℕ} {xs ys : List ℕ} → x ≡ y → xs ≡ ys → _≡_ {A = List ℕ} (x ∷ xs) (y ∷ ys)
 cons-eq p q = ap₂ (λ (a : ℕ) (l : List ℕ). a ∷ l) p q
 
 pub length-noisy : (m xs : List ℕ) → length (noisy m xs) ≡ length xs

@@ -1,0 +1,141 @@
+-- What a device holds after a run follows from demand 3 alone, for any rig; and the promise leaves no choice. Assumes nothing.
+use mathlib.Core.Path.{_≡_, refl, sym, ap, _∙_}
+use mathlib.Core.Bool.{Bool, true, false, not, _||_, _&&_}
+use mathlib.Core.Logic.{⊎-elim}
+use mathlib.Core.List.{List, [], _∷_}
+use Prim.Native.Nat.{ℕ, zero, suc, _+_, _/_, _%_, _^_, _≤_, _<_}
+use native.Mathlib.Nat.{pow-suc}
+use native.Mathlib.Omega.{arith}
+use borrow.Author.Tests.{eqb-true, eqb-false}
+use lib.Dec.{eqb}
+use lib.ListN.{length, getD, replicate}
+use lib.Pow.{shr-shr}
+use Rattle.lent.specs.Bytes.{Bytes}
+use Rattle.lent.specs.Refusal.{pick}
+use Rattle.lent.proofs.Pick.{pick-true, pick-false}
+use Rattle.frames.specs.Places.{six}
+use Rattle.frames.proofs.Lookup.{group-below}
+use Rattle.chain.specs.State.{stateLength, stored}
+use Rattle.link.specs.Rig.{Rig, ours}
+use Rattle.link.specs.Sending.{Sending, kind, group, Fair}
+use Rattle.link.specs.Step.{Seen, step}
+use Rattle.link.specs.Promise.{lost, missed, unread, sweeps, Obeys}
+use Rattle.link.specs.Demands.{AllFair, Demand3, after}
+use Rattle.link.specs.Story.{takes, holds, left, Story}
+use Rattle.link.proofs.Held.{stored-ext}
+use Rattle.link.proofs.DemandLaws.{demand3}
+
+-- two ways to say "exactly when"
+and-not : (m : Bool) (x y : List ℕ) → pick m y x ≡ pick (true && not m) x y
+unfolding pick
+and-not true x y = refl
+and-not false x y = refl
+
+sweep-not : (a m : Bool) (x y : List ℕ) → pick (m || not a) y x ≡ pick (a && not m) x y
+unfolding pick
+sweep-not true true x y = refl
+sweep-not true false x y = refl
+sweep-not false true x y = refl
+sweep-not false false x y = refl
+
+-- ONE FRAME, as a function of what was hit
+module _ (R : Rig) (n : ℕ) (s : Sending) (before : List ℕ) (r : Seen) (O : Obeys R n s before r) where
+  taken : (k h : ℕ) → k < n → h < 18 → stored k h (r .registers) ≡ takes n k h s (stored k h before)
+  unfolding takes
+  taken k h lk lh = ⊎-elim write (⊎-elim read clear) (O .kinds)
+    where
+      old : List ℕ
+      old = stored k h before
+
+      of-write : List ℕ
+      of-write = pick (eqb h (group s) && not (missed n s k)) (six k (s .bytes)) old
+
+      of-clear : List ℕ
+      of-clear = pick (sweeps (s .code) h && not (lost s)) (replicate 6 255) old
+
+      own-group : (b : Bool) → eqb h (group s) ≡ b → kind s ≡ 1 → stored k h (r .registers) ≡ pick (b && not (missed n s k)) (six k (s .bytes)) old
+      own-group true e w =
+          let q : h ≡ group s = eqb-true h (group s) e in
+          ap (λ (i : ℕ). stored k i (r .registers)) q
+          ∙ O .write w .own k lk
+          ∙ ap (λ (i : ℕ). pick (missed n s k) (stored k i before) (six k (s .bytes))) (sym q)
+          ∙ and-not (missed n s k) (six k (s .bytes)) old
+      own-group false e w = O .write w .others k h lk lh (eqb-false h (group s) e) ∙ sym (pick-false false (six k (s .bytes)) old refl)
+
+      write : kind s ≡ 1 → stored k h (r .registers) ≡ takes n k h s old
+      write w = own-group (eqb h (group s)) refl w ∙ sym (pick-true (eqb (kind s) 1) of-write (pick (eqb (kind s) 3) of-clear old) (ap (λ (x : ℕ). eqb x 1) w))
+
+      read : kind s ≡ 2 → stored k h (r .registers) ≡ takes n k h s old
+      read q =
+          ap (stored k h) (O .read q .kept)
+          ∙ sym (pick-false (eqb (kind s) 3) of-clear old (ap (λ (x : ℕ). eqb x 3) q))
+          ∙ sym (pick-false (eqb (kind s) 1) of-write (pick (eqb (kind s) 3) of-clear old) (ap (λ (x : ℕ). eqb x 1) q))
+
+      clear : kind s ≡ 3 → stored k h (r .registers) ≡ takes n k h s old
+      clear c =
+          O .clear c .all k h lk lh
+          ∙ sweep-not (sweeps (s .code) h) (lost s) (replicate 6 255) old
+          ∙ sym (pick-true (eqb (kind s) 3) of-clear old (ap (λ (x : ℕ). eqb x 3) c))
+          ∙ sym (pick-false (eqb (kind s) 1) of-write (pick (eqb (kind s) 3) of-clear old) (ap (λ (x : ℕ). eqb x 1) c))
+
+-- THE RUN
+module _ (R : Rig) (d : Demand3 R) (n : ℕ) (a : 1 ≤ n) (b : n ≤ 16) where
+  first-obeys : (state : List ℕ) → Bytes state → length state ≡ stateLength n → (s : Sending) → Fair n s → Obeys R n s state (step R n s state)
+  first-obeys state are whole s F = d n a b state are whole (s ∷ []) (F, tt) .0
+
+  run-holds : (state : List ℕ) → Bytes state → length state ≡ stateLength n → (ss : List Sending) → AllFair n ss
+      → Bytes (left R n state ss) × (length (left R n state ss) ≡ stateLength n)
+      × ((k h : ℕ) → k < n → h < 18 → stored k h (left R n state ss) ≡ holds n k h ss (stored k h state))
+  run-holds state are whole [] fair = (are, whole, λ k h lk lh. refl)
+  run-holds state are whole (s ∷ ss) fair =
+      let O = first-obeys state are whole s (fair .0) in
+      let rest = run-holds (after R n s state) (O .are-bytes) (O .size) ss (fair .1) in
+      (rest .0, rest .1, λ k h lk lh. rest .2 k h lk lh ∙ ap (holds n k h ss) (taken R n s state (step R n s state) O k h lk lh))
+
+pub story : (R : Rig) → Demand3 R → Story R
+story R d n a b state are whole ss fair =
+    let all = run-holds R d n a b state are whole ss fair in
+    let end = left R n state ss in (
+      all .2,
+      λ r F q k lk u.
+          let O = first-obeys R d n a b end (all .0) (all .1) r F in (
+            eqb-true (getD (step R n r end .marks) k 0) 0 (O .read q .mark k lk ∙ ap not u),
+            O .read q .bytes k lk ∙ pick-false (unread r k) (replicate 6 0) (stored k (group r) end) u ∙ all .2 k (group r) lk (group-below (r .code)),
+          ),
+    )
+
+pub our-story : Story ours
+our-story = story ours demand3
+
+-- THE PROMISE LEAVES NO CHOICE: registers, word and numbers are determined, and so are the bytes read and which marks are 0.
+bits-ext : (n x y : ℕ) → x < 2 ^ n → y < 2 ^ n → ((k : ℕ) → k < n → x / 2 ^ k % 2 ≡ y / 2 ^ k % 2) → x ≡ y
+bits-ext zero x y lx ly e = omega arith
+bits-ext (suc n) x y lx ly e =
+    let p = pow-suc 2 n in
+    let lowest : x / 2 ^ 0 % 2 ≡ y / 2 ^ 0 % 2 = e 0 (omega arith) in
+    let others : x / 2 ≡ y / 2 =
+    bits-ext n (x / 2) (y / 2) (omega arith) (omega arith)
+    (λ k h. let q : 1 + k ≡ suc k = omega arith in
+    ap (λ (i : ℕ). i % 2) (shr-shr x 1 k ∙ ap (λ (i : ℕ). x / 2 ^ i) q) ∙ e (suc k) (omega arith)
+    ∙ sym (ap (λ (i : ℕ). i % 2) (shr-shr y 1 k ∙ ap (λ (i : ℕ). y / 2 ^ i) q))) in
+    omega arith
+
+module _ (R R′ : Rig) (n : ℕ) (s : Sending) (before : List ℕ) (r r′ : Seen) (O : Obeys R n s before r) (O′ : Obeys R′ n s before r′) where
+  pub same-registers : r .registers ≡ r′ .registers
+  same-registers =
+      stored-ext n (r .registers) (r′ .registers) (O .size) (O′ .size) (λ k h lk lh. taken R n s before r O k h lk lh ∙ sym (taken R′ n s before r′ O′ k h lk lh))
+
+  pub same-word : r .word ≡ r′ .word
+  same-word =
+      ⊎-elim (λ w. bits-ext n (r .word) (r′ .word) (O .write w .no-more) (O′ .write w .no-more) (λ k h. O .write w .word k h ∙ sym (O′ .write w .word k h)))
+      (⊎-elim (λ q. O .read q .word ∙ sym (O′ .read q .word)) (λ c. O .clear c .word ∙ sym (O′ .clear c .word)))
+      (O .kinds)
+
+  pub same-numbers : (r .made ≡ r′ .made) × (r .number ≡ r′ .number)
+  same-numbers = (O .made ∙ sym (O′ .made), O .number ∙ sym (O′ .number))
+
+  pub same-marks : kind s ≡ 2 → (k : ℕ) → k < n → eqb (getD (r .marks) k 0) 0 ≡ eqb (getD (r′ .marks) k 0) 0
+  same-marks q k h = O .read q .mark k h ∙ sym (O′ .read q .mark k h)
+
+  pub same-bytes : kind s ≡ 2 → (k : ℕ) → k < n → six k (r .bytes) ≡ six k (r′ .bytes)
+  same-bytes q k h = O .read q .bytes k h ∙ sym (O′ .read q .bytes k h)
