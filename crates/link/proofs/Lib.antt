@@ -8,3 +8,6 @@ pub mod DemandLaws
 pub mod Carrying
 pub mod StoryLaws
 pub mod CarryLaws
+pub mod FairFrames
+pub mod WrongHosts
+pub mod WrongChains
