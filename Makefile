@@ -13,9 +13,11 @@ need:
 second: need
 	@echo '== second: tests of the second implementation'
 	@cargo test --offline --quiet --manifest-path second/Cargo.toml
-	@echo '== second: the stored answers of crate vectors are those that it derives'
-	@cargo run --offline --quiet --manifest-path second/Cargo.toml --bin vectors > second/target/vectors.stdout
-	@diff -u crates/vectors/stdout second/target/vectors.stdout
+	@echo '== second: the stored answers of the programs vectors and demo are those that it derives'
+	@for program in vectors demo; do \
+	    cargo run --offline --quiet --manifest-path second/Cargo.toml --bin $$program > second/target/$$program.stdout && \
+	    diff -u crates/$$program/stdout second/target/$$program.stdout || exit 1; \
+	done
 
 fmt:
 	rt fmt

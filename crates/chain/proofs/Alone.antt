@@ -16,7 +16,7 @@ use Rattle.frames.specs.Commands.{kindOf, groupOf}
 use Rattle.frames.proofs.Lookup.{group-below}
 use Rattle.frames.proofs.KindCases.{length-long}
 use Rattle.chain.specs.State.{stored}
-use Rattle.chain.specs.Effect.{written, storedBits, changed, report}
+use Rattle.chain.specs.Effect.{written, changed, report}
 use Rattle.chain.specs.Chain.{codeOf, chainNumber, chainWord, chainState}
 use Rattle.chain.specs.Alone.{Alone}
 use Rattle.chain.proofs.CodeLaws.{code-alike}

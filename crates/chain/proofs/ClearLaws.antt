@@ -1,7 +1,7 @@
 -- A clear: its groups become 0xFF on every device, every other group stays. Assumes nothing.
-use mathlib.Core.Path.{_≡_, refl, sym, ap, _∙_}
+use mathlib.Core.Path.{_≡_, refl, ap, _∙_}
 use mathlib.Core.Bool.{Bool, true, false, not, _||_}
-use mathlib.Core.Logic.{_⊎_, inl, inr, ⊎-elim}
+use mathlib.Core.Logic.{_⊎_, ⊎-elim}
 use mathlib.Core.List.{List, _∷_}
 use Prim.Native.Nat.{ℕ, zero, suc, _+_, _*_, _-_, _^_, _≤_, _<_}
 use native.Mathlib.Nat.{le-of-suc-le-suc, eq-or-lt-of-le}
@@ -18,7 +18,7 @@ use Rattle.lent.specs.Refusal.{pick}
 use Rattle.lent.proofs.Bytes.{bytes-splice, bytes-replicate}
 use Rattle.lent.proofs.Over.{filled}
 use Rattle.lent.proofs.Splice.{length-splice, splice-put, splice-before, splice-after, splice-inside}
-use Rattle.frames.specs.Commands.{Row, rows, found, kindOf, groupOf}
+use Rattle.frames.specs.Commands.{Row, rows, kindOf, groupOf}
 use Rattle.frames.proofs.Lookup.{looked-up}
 use Rattle.chain.specs.State.{stateLength, spot, stored}
 use Rattle.chain.specs.Effect.{silence, clearCount, cleared}

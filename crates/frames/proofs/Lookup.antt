@@ -6,12 +6,12 @@ use mathlib.Core.List.{List, [], _∷_, map}
 use Prim.Native.Nat.{ℕ, _+_, _*_, _≤_, _<_}
 use native.Mathlib.Numerals.{add-one}
 use native.Mathlib.Omega.{arith}
-use borrow.Author.Tests.{eqb-true, eqb-false, ltb-true, le-ltb, eq-eqb, ne-eqb}
+use borrow.Author.Tests.{eqb-true, eqb-false, ltb-true, eq-eqb, ne-eqb}
 use lib.Dec.{eqb, ltb}
 use lib.ListN.{length, getD, drop, drop-of-length-le, List·getD-map}
 use lib.Seq.{drop-cons}
 use Rattle.lent.specs.Refusal.{pick}
-use Rattle.lent.proofs.Tests.{clash, and-left, and-right, below, each-below}
+use Rattle.lent.proofs.Tests.{and-left, and-right, below, each-below}
 use Rattle.frames.specs.Commands.{Row, row, rows, found, kindOf, groupOf}
 
 -- the row at a place, and past the table's end an empty one

@@ -6,12 +6,11 @@ use Prim.Native.Nat.{ℕ, _+_, _≤_}
 use native.Mathlib.Omega.{arith}
 use lib.ListN.{length, take}
 use lib.Seq.{length-take-le}
-use Rattle.lent.specs.Bytes.{Bytes}
 use Rattle.lent.specs.Memory.{over}
 use Rattle.lent.specs.Refusal.{pick}
 use Rattle.lent.proofs.Bytes.{bytes-take}
 use Rattle.pec.specs.Group.{twoBytes, withPec, right}
-use Rattle.pec.specs.Noise.{noisy, hit}
+use Rattle.pec.specs.Noise.{noisy}
 use Rattle.pec.proofs.Mask.{length-noisy, take-noisy, unhit-same}
 use Rattle.pec.proofs.Noise.{found-right}
 use Rattle.frames.specs.Size.{outside}

@@ -1,5 +1,5 @@
 -- THE DEMANDS, met by our rig: demand 3 by its frames one after the other, demand 2 as the quiet case of it. Assumes nothing.
-use mathlib.Core.Path.{_≡_, refl, sym, ap, ap₂, _∙_}
+use mathlib.Core.Path.{_≡_, sym, ap, ap₂, _∙_}
 use mathlib.Core.Bool.{Bool, true, false, not, _||_}
 use mathlib.Core.List.{List, [], _∷_}
 use Prim.Native.Nat.{ℕ, _+_, _*_, _-_, _^_, _≤_, _<_}
@@ -28,7 +28,7 @@ use Rattle.link.specs.Promise.{lost, missed, unread, sweeps, Obeys}
 use Rattle.link.specs.Demands.{Demand3, Quiet, held, Undisturbed, after, Demand2}
 use Rattle.link.proofs.Held.{six-ext, length-held, six-held}
 use Rattle.link.proofs.WriteFrame.{bytes-long, word-write, wire-right}
-use Rattle.link.proofs.ReadFrame.{returns-long, marks-given, bytes-given, bytes-size, getD-over, six-over}
+use Rattle.link.proofs.ReadFrame.{marks-given, bytes-given, bytes-size, getD-over, six-over}
 use Rattle.link.proofs.OneFrame.{obeys, size, are-bytes}
 
 pub demand3 : Demand3 ours

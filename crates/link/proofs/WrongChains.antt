@@ -24,7 +24,7 @@ use Rattle.frames.specs.Writer.{writerNumber, writerLength, writerOut}
 use Rattle.chain.specs.State.{stateLength, spot, stored}
 use Rattle.chain.specs.Effect.{storedBits, report}
 use Rattle.chain.specs.Chain.{codeOf, chainNumber, chainWord}
-use Rattle.link.specs.Rig.{Rig, Served, ours}
+use Rattle.link.specs.Rig.{Rig, ours}
 use Rattle.link.specs.Sending.{group}
 use Rattle.link.specs.Step.{frame, arrives, serves, step}
 use Rattle.link.specs.Promise.{lost, missed}

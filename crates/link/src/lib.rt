@@ -2,7 +2,6 @@
 ghost use mathlib.Core.Path.{_≡_};
 ghost use Prim.Native.Nat.{min};
 ghost use Rattle.pec.specs.Noise.{noisy};
-ghost use Rattle.link.specs.Sending.{Sending};
 ghost use Rattle.link.specs.Carry.{Carries};
 
 // The writer's number; the chain's number and word; the reader's number.

@@ -2,7 +2,6 @@
 ghost use mathlib.Core.Path.{_≡_};
 ghost use Prim.Native.Nat.{_<_, _≤_};
 ghost use lib.ListN.{length};
-ghost use lib.Dec.{eqb};
 ghost use Rattle.pec.specs.Register.{pecOf};
 ghost use Rattle.pec.specs.Polynomial.{entryOf};
 ghost use Rattle.pec.specs.Remainders.{remainders};

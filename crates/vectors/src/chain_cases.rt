@@ -1,7 +1,6 @@
 // The chain: each case lends a state of which byte j is (7j + 1) mod 251 and a reply of bytes 0xAA, and shows the groups that changed and the whole reply.
 ghost use Prim.Native.Nat.{_+_, _≤_};
 ghost use lib.ListN.{length};
-use crate::say;
 
 fn before(j: usize) -> u8
     requires { ⌜ j ≤ 1836 ⌝ }

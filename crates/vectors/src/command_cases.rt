@@ -1,5 +1,4 @@
 // The 26 commands by their names in document 002, with their kind, group and command group on the wire.
-use crate::say;
 use frames::commands;
 
 fn kind_name(kind: u8) {

@@ -1,8 +1,11 @@
 // Runs what the data sheets and document 01 print against the rig, and shows each answer. The file 'stdout' beside src/ is what the second
 // implementation answers to the same questions.
+mod cells_cases;
 mod chain_cases;
 mod command_cases;
-mod say;
+mod reader_cases;
+mod tally_cases;
+mod wake_cases;
 mod words;
 mod writer_cases;
 
@@ -11,4 +14,8 @@ fn main() {
     command_cases::show();
     writer_cases::show();
     chain_cases::show();
+    wake_cases::show();
+    cells_cases::show();
+    tally_cases::show();
+    reader_cases::show();
 }

@@ -1,5 +1,4 @@
 // The check words that the data sheets and document 01 print, and document 01's table entries.
-use crate::say;
 
 fn word(bytes: &[u8]) {
     say::text(b"pec ");

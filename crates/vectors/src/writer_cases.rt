@@ -1,6 +1,5 @@
 // The frame writer: each case lends an output of `room` bytes 0xAA and shows it whole afterwards.
 ghost use Prim.Native.Nat.{_≤_};
-use crate::say;
 
 fn run(n: u32, code: u32, data: &[u8], out: &mut [u8]) {
     let room = out.len();

@@ -1,5 +1,5 @@
 -- `chain::hear` meets the chain's record: each return by the law of its number, on a reply that is filled with silence first. Assumes nothing.
-use mathlib.Core.Path.{_≡_, refl, sym, _∙_}
+use mathlib.Core.Path.{refl, sym, _∙_}
 use native.Mathlib.Omega.{arith}
 use borrow.Author.Needs.{needs}
 use borrow.Author.Tests.{not-true, not-false}

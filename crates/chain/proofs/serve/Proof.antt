@@ -1,6 +1,5 @@
 -- `chain::serve` meets its record: the refusals that change nothing, and then what is heard. Assumes nothing.
-use mathlib.Core.Path.{_≡_, refl, sym, _∙_}
-use native.Mathlib.Omega.{arith}
+use mathlib.Core.Path.{refl, sym, _∙_}
 use borrow.Author.Needs.{needs}
 use Rattle.frames.proofs.Sizes.{at-most}
 use Rattle.chain.specs.Chain.{fills}

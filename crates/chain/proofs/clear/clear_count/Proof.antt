@@ -1,5 +1,4 @@
 -- `chain::clear::clear_count` is the definition. Assumes nothing.
-use mathlib.Core.Path.{_≡_}
 use borrow.Author.Tests.{eq-eqb, ne-eqb}
 use Rattle.lent.specs.Refusal.{pick}
 use Rattle.chain.specs.Effect.{clearCount}

@@ -1,7 +1,6 @@
 -- `frames::commands::find` is the one lookup. The loop's invariant: what is found in the rows from i on is what is found in all. Assumes nothing.
 use mathlib.Core.Path.{_≡_, refl, ap, sym, _∙_}
-use mathlib.Core.List.{List, map}
-use Prim.Native.Nat.{ℕ, _≤_, _-_}
+use Prim.Native.Nat.{_≤_, _-_}
 use native.Mathlib.Omega.{arith}
 use lib.ListN.{drop, List·getD-map}
 use Rattle.frames.specs.Commands.{Row, row, rows, found, kindOf, groupOf}

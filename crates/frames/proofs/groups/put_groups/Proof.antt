@@ -1,7 +1,7 @@
 -- `frames::groups::put_groups` lays the write groups, device n's first. The loop's invariant: as many bytes as are passed are the groups', and what is left
 -- of the groups is those of the k devices to come. Assumes nothing.
 use mathlib.Core.Path.{_≡_, refl, _∙_}
-use Prim.Native.Nat.{ℕ, _+_, _*_, _≤_}
+use Prim.Native.Nat.{_+_, _*_, _≤_}
 use native.Mathlib.Omega.{arith}
 use lib.ListN.{length, drop}
 use Rattle.lent.proofs.Over.{upto, upto-none, upto-full}

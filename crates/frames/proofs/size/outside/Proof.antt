@@ -1,5 +1,4 @@
 -- `frames::size::outside` is the definition's test. Assumes nothing.
-use mathlib.Core.Path.{_≡_, refl, sym}
 use borrow.Author.Tests.{eq-eqb, ne-eqb}
 use Rattle.frames.specs.Size.{outside}
 use Rattle.frames.proofs.size.outside.Statement.{statement}

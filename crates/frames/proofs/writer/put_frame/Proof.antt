@@ -1,5 +1,5 @@
 -- `frames::writer::put_frame` lays the frame over the output: the command group, then what its kind puts behind it. Assumes nothing.
-use mathlib.Core.Path.{_≡_, sym, _∙_}
+use mathlib.Core.Path.{sym, _∙_}
 use mathlib.Core.List.{_++_}
 use Prim.Native.Nat.{_+_, _-_, _*_}
 use native.Mathlib.Omega.{arith}
@@ -9,7 +9,6 @@ use Rattle.lent.proofs.Over.{filled}
 use Rattle.pec.specs.Group.{twoBytes}
 use Rattle.frames.proofs.Lookup.{kind-below, known-below}
 use Rattle.frames.proofs.KindCases.{needs-data, length-long, length-least, body-write, body-read}
-use Rattle.frames.proofs.GroupLaws.{length-writeGroups}
 use Rattle.frames.proofs.FrameLaws.{frame-with, frame-alone}
 use Rattle.frames.proofs.writer.put_frame.Statement.{statement}
 use Rattle.frames.proofs.writer.put_frame.Tie as tie

@@ -1,6 +1,6 @@
 -- `vectors::chain_cases::prepare` is safe and ends. Assumes nothing.
 use Prim.Native.Nat.{_≤_, _-_}
-use lib.ListN.{length, length-set}
+use lib.ListN.{length}
 use mathlib.Core.Path.{_≡_}
 use borrow.Author.Needs.{needs}
 use Rattle.vectors.proofs.chain_cases.prepare.Statement.{statement}

@@ -1,10 +1,10 @@
--- `vectors::say::hex` is safe and ends. Assumes nothing.
+-- `say::hex` is safe and ends. Assumes nothing.
 use Prim.Native.Nat.{_≤_}
 use lib.ListN.{length}
 use mathlib.Core.Path.{_≡_}
 use borrow.Author.Needs.{needs}
-use Rattle.vectors.proofs.say.hex.Statement.{statement}
-use Rattle.vectors.proofs.say.hex.Tie as tie
+use Rattle.say.proofs.hex.Statement.{statement}
+use Rattle.say.proofs.hex.Tie as tie
 
 abbrev Inv-loop : tie.InvT-loop
 Inv-loop number width digits₀ rest₀ at₀ digits rest at = (at ≤ 8) × (length digits ≡ 8)

@@ -1,9 +1,9 @@
--- `vectors::say::bytes` is safe and ends. Assumes nothing.
+-- `say::bytes` is safe and ends. Assumes nothing.
 use Prim.Native.Nat.{_≤_, _-_}
 use lib.ListN.{length}
 use borrow.Author.Needs.{needs}
-use Rattle.vectors.proofs.say.bytes.Statement.{statement}
-use Rattle.vectors.proofs.say.bytes.Tie as tie
+use Rattle.say.proofs.bytes.Statement.{statement}
+use Rattle.say.proofs.bytes.Tie as tie
 
 abbrev Inv-loop : tie.InvT-loop
 Inv-loop list i₀ i = i ≤ length list
