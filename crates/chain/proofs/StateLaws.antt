@@ -17,6 +17,10 @@ pub within : (n k g count : ℕ) → k < n → g + count ≤ 18 → spot k g + 6
 unfolding spot stateLength
 within n k g count h l = omega arith
 
+-- the same of a place that the code has worked out
+pub room-at : (n k g count at : ℕ) → at ≡ spot k g → k < n → g + count ≤ 18 → at + 6 * count ≤ stateLength n
+room-at n k g count at e h l = omega (arith, within n k g count h l)
+
 pub size-most : (n : ℕ) → n ≤ 16 → stateLength n ≤ 1728
 unfolding stateLength
 size-most n h = omega arith

@@ -46,10 +46,14 @@ pub turn-word : (n k from word bit r : ℕ) (frame : List ℕ) → from ≡ 4 + 
 unfolding wire storedBits
 turn-word n k from word bit r frame ef eb ew er = let size : from + 8 - from ≡ 8 = omega arith in rw (add-one, ew, er, size, ef, eb)
 
-pub pick-most : (b : Bool) (x : ℕ) → pick b x 0 ≤ x
+pick-most : (b : Bool) (x : ℕ) → pick b x 0 ≤ x
 unfolding pick
 pick-most true x = omega arith
 pick-most false x = omega arith
+
+-- what a device adds to the word is at most its bit
+pub bit-or-none : (b : Bool) (bit r : ℕ) → r ≡ pick b bit 0 → r ≤ bit
+bit-or-none b bit r e = omega (arith, pick-most b bit)
 
 pub pow-step : (k : ℕ) → 2 ^ (k + 1) ≡ 2 ^ k * 2
 pow-step k = rw (add-one, pow-suc)

@@ -6,7 +6,7 @@ use borrow.Rule.Slice.PartMut.{same-len-mid}
 use lib.ListN.{length}
 use lib.Pow.{pow-pos}
 use Rattle.chain.specs.Effect.{cleared}
-use Rattle.chain.proofs.StateLaws.{within, size-most}
+use Rattle.chain.proofs.StateLaws.{room-at, size-most}
 use Rattle.chain.proofs.WriteLaws.{pow-step, bit-small}
 use Rattle.chain.proofs.ClearLaws.{pow-most, turn}
 use Rattle.chain.proofs.clear.clear_groups.Statement.{statement}
@@ -30,7 +30,9 @@ spot-requires : tie.Need-spot-requires Inv-loop μ-loop
 spot-requires c κs = omega arith
 
 add-fill : tie.Need-add-fill Inv-loop μ-loop
-add-fill c = let a = c .before .before .before .before .args in omega (arith, c .spot .ensures, size-most (a .n) (omega arith), within (a .n) (c .before .before .loop .k) (a .group) (a .count) (omega arith) (omega arith))
+add-fill c =
+    let a = c .before .before .before .before .args in
+    omega (arith, size-most (a .n) (omega arith), room-at (a .n) _ _ (a .count) _ (c .spot .ensures) (omega arith) (omega arith))
 
 sub-fill : tie.Need-sub-fill Inv-loop μ-loop
 sub-fill c = omega arith
@@ -39,7 +41,7 @@ part-fill-start : tie.Need-part-fill-start Inv-loop μ-loop
 part-fill-start c = omega arith
 
 part-fill-end : tie.Need-part-fill-end Inv-loop μ-loop
-part-fill-end c = let a = c .before .before .before .before .args in omega (arith, c .spot .ensures, size-most (a .n) (omega arith), within (a .n) (c .before .before .loop .k) (a .group) (a .count) (omega arith) (omega arith))
+part-fill-end c = omega (arith, room-at (c .before .before .before .before .args .n) _ _ (c .before .before .before .before .args .count) _ (c .spot .ensures) (omega arith) (omega arith))
 
 fill-requires : tie.Need-fill-requires Inv-loop μ-loop
 fill-requires c κs = omega arith

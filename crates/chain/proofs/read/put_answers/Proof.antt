@@ -6,7 +6,7 @@ use lib.ListN.{length}
 use Rattle.lent.specs.Memory.{over}
 use Rattle.lent.proofs.Over.{over-none, over-full}
 use Rattle.chain.specs.Effect.{answers}
-use Rattle.chain.proofs.StateLaws.{within, size-most}
+use Rattle.chain.proofs.StateLaws.{room-at, size-most}
 use Rattle.chain.proofs.ReadLaws.{length-answers, turn}
 use Rattle.chain.proofs.read.put_answers.Statement.{statement}
 use Rattle.chain.proofs.read.put_answers.Tie as tie
@@ -28,7 +28,9 @@ mul-at : tie.Need-mul-at Inv-loop μ-loop
 mul-at c = omega arith
 
 add-put-group : tie.Need-add-put-group Inv-loop μ-loop
-add-put-group c = let a = c .before .before .before .before .before .args in omega (arith, c .spot .ensures, size-most (a .n) (omega arith), within (a .n) (c .before .before .loop .k) (a .group) 1 (omega arith) (omega arith))
+add-put-group c =
+    let a = c .before .before .before .before .before .args in
+    omega (arith, size-most (a .n) (omega arith), room-at (a .n) _ _ 1 _ (c .spot .ensures) (omega arith) (omega arith))
 
 sub-put-group : tie.Need-sub-put-group Inv-loop μ-loop
 sub-put-group c = omega arith
@@ -37,7 +39,7 @@ part-put-group-start : tie.Need-part-put-group-start Inv-loop μ-loop
 part-put-group-start c = omega arith
 
 part-put-group-end : tie.Need-part-put-group-end Inv-loop μ-loop
-part-put-group-end c = let a = c .before .before .before .before .before .args in omega (arith, c .spot .ensures, size-most (a .n) (omega arith), within (a .n) (c .before .before .loop .k) (a .group) 1 (omega arith) (omega arith))
+part-put-group-end c = omega (arith, room-at (c .before .before .before .before .before .args .n) _ _ 1 _ (c .spot .ensures) (omega arith) (omega arith))
 
 add-put-group-2 : tie.Need-add-put-group-2 Inv-loop μ-loop
 add-put-group-2 c = omega arith

@@ -3,11 +3,10 @@ use mathlib.Core.Path.{_≡_, refl, ap, _∙_}
 use Prim.Native.Nat.{ℕ, _+_, _-_, _*_, _^_, _≤_}
 use native.Mathlib.Omega.{arith}
 use borrow.Rule.Slice.PartMut.{same-len-mid}
-use lib.ListN.{length, take, drop}
-use Rattle.pec.specs.Group.{right}
+use lib.ListN.{length}
 use Rattle.chain.specs.Effect.{written, storedBits}
-use Rattle.chain.proofs.StateLaws.{within, size-most}
-use Rattle.chain.proofs.WriteLaws.{turn, turn-word, pick-most, pow-step, bit-small, bits-below}
+use Rattle.chain.proofs.StateLaws.{room-at, size-most}
+use Rattle.chain.proofs.WriteLaws.{turn, turn-word, bit-or-none, pow-step, bit-small, bits-below}
 use Rattle.chain.proofs.write.store_groups.Statement.{statement}
 use Rattle.chain.proofs.write.store_groups.Tie as tie
 
@@ -53,7 +52,9 @@ cast-take-group : tie.Need-cast-take-group Inv-loop μ-loop
 cast-take-group c = omega (arith, c .before .before .before .loop .inv .1, bit-small (c .before .before .before .before .before .before .args .n) (c .before .before .before .loop .k) (omega arith) (omega arith))
 
 add-take-group-2 : tie.Need-add-take-group-2 Inv-loop μ-loop
-add-take-group-2 c = let a = c .before .before .before .before .before .before .args in omega (arith, c .before .spot .ensures, size-most (a .n) (omega arith), within (a .n) (c .before .before .before .loop .k) (a .group) 1 (omega arith) (omega arith))
+add-take-group-2 c =
+    let a = c .before .before .before .before .before .before .args in
+    omega (arith, size-most (a .n) (omega arith), room-at (a .n) _ _ 1 _ (c .before .spot .ensures) (omega arith) (omega arith))
 
 sub-take-group-2 : tie.Need-sub-take-group-2 Inv-loop μ-loop
 sub-take-group-2 c = omega arith
@@ -62,7 +63,7 @@ part-take-group-start-2 : tie.Need-part-take-group-start-2 Inv-loop μ-loop
 part-take-group-start-2 c = omega arith
 
 part-take-group-end-2 : tie.Need-part-take-group-end-2 Inv-loop μ-loop
-part-take-group-end-2 c = let a = c .before .before .before .before .before .before .args in omega (arith, c .before .spot .ensures, size-most (a .n) (omega arith), within (a .n) (c .before .before .before .loop .k) (a .group) 1 (omega arith) (omega arith))
+part-take-group-end-2 c = omega (arith, room-at (c .before .before .before .before .before .before .args .n) _ _ 1 _ (c .before .spot .ensures) (omega arith) (omega arith))
 
 take-group-requires : tie.Need-take-group-requires Inv-loop μ-loop
 take-group-requires c κs = (c .before .before .before .before .before .before .before .pre .0, omega arith, omega arith)
@@ -71,15 +72,8 @@ add-word : tie.Need-add-word Inv-loop μ-loop
 add-word c =
     let a = c .before .before .before .before .before .before .before .before .before .before .args in
     let l = c .before .before .before .before .before .before .before .loop in
-    omega (
-      arith,
-      l .inv .1,
-      l .inv .2,
-      bit-small (a .n) (l .k) (omega arith) (omega arith),
-      bits-below (a .n) (l .k) (a .frame .now),
-      c .before .before .take-group .ensures .0,
-      pick-most (right (take (4 + 8 * (a .n - 1 - l .k) + 8 - (4 + 8 * (a .n - 1 - l .k))) (drop (4 + 8 * (a .n - 1 - l .k)) (a .frame .now)))) (l .bit),
-    )
+    omega (arith, l .inv .1, l .inv .2, bit-small (a .n) (l .k) (omega arith) (omega arith), bits-below (a .n) (l .k) (a .frame .now),
+    bit-or-none _ _ _ (c .before .before .take-group .ensures .0))
 
 mul-bit : tie.Need-mul-bit Inv-loop μ-loop
 mul-bit c = omega (arith, c .before .before .before .before .before .before .before .loop .inv .1, bit-small (c .before .before .before .before .before .before .before .before .before .before .args .n) (c .before .before .before .before .before .before .before .loop .k) (omega arith) (omega arith))
