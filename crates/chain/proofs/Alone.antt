@@ -9,6 +9,7 @@ use borrow.Author.Tests.{eqb-true, eqb-false}
 use lib.Dec.{eqb}
 use lib.ListN.{length, take}
 use Rattle.lent.specs.Refusal.{pick}
+use Rattle.lent.proofs.BitsWhere.{bits-at}
 use Rattle.lent.proofs.Pick.{pick-true, pick-false}
 use Rattle.pec.specs.Group.{right}
 use Rattle.frames.specs.Places.{wire}
@@ -16,12 +17,12 @@ use Rattle.frames.specs.Commands.{kindOf, groupOf}
 use Rattle.frames.proofs.Lookup.{group-below}
 use Rattle.frames.proofs.KindCases.{length-long}
 use Rattle.chain.specs.State.{stored}
-use Rattle.chain.specs.Effect.{written, changed, report}
+use Rattle.chain.specs.Effect.{written, storedBits, changed, report}
 use Rattle.chain.specs.Chain.{codeOf, chainNumber, chainWord, chainState}
 use Rattle.chain.specs.Alone.{Alone}
 use Rattle.chain.proofs.CodeLaws.{code-alike}
 use Rattle.chain.proofs.Accepted.{Accepted, accepted}
-use Rattle.chain.proofs.WriteLaws.{written-own, written-other, bits-at}
+use Rattle.chain.proofs.WriteLaws.{written-own, written-other}
 
 -- the number depends on the first four bytes and the length
 number-alike : (n : ℕ) (frame frame′ : List ℕ) (s r : ℕ) → length frame ≡ length frame′ → take 4 frame ≡ take 4 frame′
@@ -64,7 +65,7 @@ module _ (n : ℕ) (frame frame′ state : List ℕ) (r j : ℕ) (l : length fra
       go false e = ap (stored j h) (pick-false (eqb kind 1) _ _ e) ∙ sym (ap (stored j h) (pick-false (eqb kind 1) _ _ e))
 
   report-alike : report n kind frame / 2 ^ j % 2 ≡ report n kind frame′ / 2 ^ j % 2
-  unfolding report
+  unfolding report storedBits
   report-alike = go (eqb kind 1) refl
     where
       bit : ℕ → ℕ
@@ -73,9 +74,9 @@ module _ (n : ℕ) (frame frame′ state : List ℕ) (r j : ℕ) (l : length fra
       go : (b : Bool) → eqb kind 1 ≡ b → bit (report n kind frame) ≡ bit (report n kind frame′)
       go true e =
           ap bit (pick-true (eqb kind 1) _ _ e)
-          ∙ bits-at n n j frame hj
+          ∙ bits-at (λ (i : ℕ). right (wire n i frame)) n j hj
           ∙ ap (λ (x : List ℕ). pick (right x) 1 0) own
-          ∙ sym (bits-at n n j frame′ hj)
+          ∙ sym (bits-at (λ (i : ℕ). right (wire n i frame′)) n j hj)
           ∙ sym (ap bit (pick-true (eqb kind 1) _ _ e))
       go false e = ap bit (pick-false (eqb kind 1) _ _ e) ∙ sym (ap bit (pick-false (eqb kind 1) _ _ e))
 

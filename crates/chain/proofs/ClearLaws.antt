@@ -55,7 +55,7 @@ turn k g count at state now after ea en la e =
     ∙ ap (λ (l : List ℕ). splice at l now) (filled after 255 (length (take (at + 6 * count - at) (drop at now))) (6 * count) e la)
     ∙ rw (add-one, ea, en)
 
-length-silence : (count : ℕ) → length (silence count) ≡ count
+pub length-silence : (count : ℕ) → length (silence count) ≡ count
 unfolding silence
 length-silence count = length-replicate {A = ℕ} count 255
 

@@ -1,20 +1,20 @@
 -- A write: each device by its own group on the wire alone, its registers and its bit of the word. Assumes nothing.
-use mathlib.Core.Path.{_≡_, refl, sym, ap, ap₂, _∙_, subst}
+use mathlib.Core.Path.{_≡_, refl, sym, _∙_, subst}
 use mathlib.Core.Bool.{Bool, true, false}
 use mathlib.Core.Logic.{⊎-elim}
 use mathlib.Core.List.{List}
-use Prim.Native.Nat.{ℕ, zero, suc, _+_, _*_, _-_, _/_, _%_, _^_, _≤_, _<_}
-use native.Mathlib.Nat.{pow-suc, add-mul-mod-self-right, add-zero, le-of-suc-le-suc, eq-or-lt-of-le}
+use Prim.Native.Nat.{ℕ, zero, suc, _+_, _*_, _-_, _^_, _≤_, _<_}
+use native.Mathlib.Nat.{pow-suc, le-of-suc-le-suc, eq-or-lt-of-le}
 use native.Mathlib.Numerals.{add-one}
 use native.Mathlib.Omega.{arith}
 use lib.ListN.{length, take, drop, length-take, length-drop}
-use lib.Pow.{pow-pos, pow-mono, pow-add, high, field}
+use lib.Pow.{pow-mono}
 use lib.Seq.{length-take-le}
 use borrow.Rule.Slice.PartMut.{putMid}
 use Rattle.lent.specs.Bytes.{Bytes}
 use Rattle.lent.specs.Refusal.{pick}
+use Rattle.lent.specs.Word.{bitsWhere}
 use Rattle.lent.proofs.Bytes.{bytes-take, bytes-drop, bytes-pick}
-use Rattle.lent.proofs.Pick.{pick-true}
 use Rattle.lent.proofs.Splice.{put-pick}
 use Rattle.pec.specs.Group.{right}
 use Rattle.frames.specs.Places.{wire}
@@ -43,17 +43,8 @@ turn n k g at from frame state now after h lf ea ef en e =
 
 pub turn-word : (n k from word bit r : ℕ) (frame : List ℕ) → from ≡ 4 + 8 * (n - 1 - k) → bit ≡ 2 ^ k → word ≡ storedBits n k frame
     → r ≡ pick (right (take (from + 8 - from) (drop from frame))) bit 0 → word + r ≡ storedBits n (k + 1) frame
-unfolding wire storedBits
+unfolding wire storedBits bitsWhere
 turn-word n k from word bit r frame ef eb ew er = let size : from + 8 - from ≡ 8 = omega arith in rw (add-one, ew, er, size, ef, eb)
-
-pick-most : (b : Bool) (x : ℕ) → pick b x 0 ≤ x
-unfolding pick
-pick-most true x = omega arith
-pick-most false x = omega arith
-
--- what a device adds to the word is at most its bit
-pub bit-or-none : (b : Bool) (bit r : ℕ) → r ≡ pick b bit 0 → r ≤ bit
-bit-or-none b bit r e = omega (arith, pick-most b bit)
 
 pub pow-step : (k : ℕ) → 2 ^ (k + 1) ≡ 2 ^ k * 2
 pow-step k = rw (add-one, pow-suc)
@@ -113,49 +104,3 @@ bytes-written n g frame state bf bs (suc j) =
     let new = bytes-take 6 (wire n j frame) (bytes-take 8 (drop (4 + 8 * (n - 1 - j)) frame) (bytes-drop (4 + 8 * (n - 1 - j)) frame bf)) in
     bytes-pick (right (wire n j frame)) (storing j g (take 6 (wire n j frame)) (written n j g frame state)) (written n j g frame state)
     (bytes-storing j g (take 6 (wire n j frame)) (written n j g frame state) new now) now
-
--- THE WORD
-pub bits-below : (n k : ℕ) (frame : List ℕ) → storedBits n k frame < 2 ^ k
-unfolding storedBits
-bits-below n zero frame = omega (arith, pow-pos 0)
-bits-below n (suc k) frame = omega (arith, bits-below n k frame, pick-most (right (wire n k frame)) (2 ^ k), pow-suc 2 k)
-
--- bit k of a number is not changed by a higher one
-bit-high : (x k j : ℕ) → k < j → (x + 2 ^ j) / 2 ^ k % 2 ≡ x / 2 ^ k % 2
-bit-high x k j h =
-    let e : 2 ^ j ≡ 2 ^ (j - (1 + k)) * 2 ^ (1 + k) = ap (λ (i : ℕ). 2 ^ i) (omega arith) ∙ pow-add 2 (j - (1 + k)) (1 + k) in
-    sym (field (x + 2 ^ j) 1 k)
-    ∙ ap (λ (i : ℕ). i / 2 ^ k) (ap (λ (i : ℕ). (x + i) % 2 ^ (1 + k)) e ∙ add-mul-mod-self-right x (2 ^ (j - (1 + k))) (2 ^ (1 + k)))
-    ∙ field x 1 k
-
--- bit j of a number below 2^j, with 2^j added, and without
-bit-here : (x j : ℕ) (b : Bool) → x < 2 ^ j → (x + pick b (2 ^ j) 0) / 2 ^ j % 2 ≡ pick b 1 0
-unfolding pick
-bit-here x j true h = ap (λ (i : ℕ). i % 2) (ap (λ (i : ℕ). i / 2 ^ j) (omega arith) ∙ high 1 j h)
-bit-here x j false h = ap (λ (i : ℕ). i % 2) (ap (λ (i : ℕ). i / 2 ^ j) (omega arith) ∙ high 0 j h)
-
-pub bit-zero : (k : ℕ) → 0 / 2 ^ k % 2 ≡ 0
-unfolding pick
-bit-zero k = bit-here 0 k false (pow-pos k)
-
-pub bits-at : (n j k : ℕ) (frame : List ℕ) → k < j → storedBits n j frame / 2 ^ k % 2 ≡ pick (right (wire n k frame)) 1 0
-unfolding storedBits
-bits-at n zero k frame h = absurd (omega arith)
-bits-at n (suc j) k frame h =
-    ⊎-elim
-    (λ e. subst (λ (i : ℕ). storedBits n (suc j) frame / 2 ^ i % 2 ≡ pick (right (wire n i frame)) 1 0) (sym e)
-    (bit-here (storedBits n j frame) j (right (wire n j frame)) (bits-below n j frame)))
-    (λ a. before (right (wire n j frame)) (storedBits n j frame) a ∙ bits-at n j k frame a)
-    (eq-or-lt-of-le (le-of-suc-le-suc h))
-  where
-    before : (b : Bool) (x : ℕ) → k < j → (x + pick b (2 ^ j) 0) / 2 ^ k % 2 ≡ x / 2 ^ k % 2
-    before true x l = unfold pick in bit-high x k j l
-    before false x l = unfold pick in ap (λ (i : ℕ). i / 2 ^ k % 2) (add-zero x)
-
--- a write that reached every device
-pub bits-all : (n j : ℕ) (frame : List ℕ) → ((k : ℕ) → k < j → right (wire n k frame) ≡ true) → storedBits n j frame ≡ 2 ^ j - 1
-unfolding storedBits
-bits-all n zero frame h = refl
-bits-all n (suc j) frame h =
-    ap₂ (λ (x y : ℕ). x + y) (bits-all n j frame (λ k l. h k (omega arith))) (pick-true (right (wire n j frame)) (2 ^ j) 0 (h j (omega arith)))
-    ∙ omega (arith, pow-suc 2 j, pow-pos j)

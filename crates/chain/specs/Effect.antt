@@ -1,10 +1,11 @@
 -- What a good frame does, by the kind of its command: the reply's bytes, the state after it, the word. Assumes nothing.
-use Prim.Native.Nat.{ℕ, zero, suc, _+_, _*_, _-_, _^_}
+use Prim.Native.Nat.{ℕ, zero, suc, _*_, _-_, _^_}
 use mathlib.Core.List.{List, [], _++_}
 use lib.Dec.{eqb}
 use lib.ListN.{length, take, replicate}
 use Rattle.lent.specs.Memory.{splice}
 use Rattle.lent.specs.Refusal.{pick}
+use Rattle.lent.specs.Word.{bitsWhere}
 use Rattle.pec.specs.Group.{withPec, right}
 use Rattle.frames.specs.Kind.{isWrite, isRead, isClear}
 use Rattle.frames.specs.Places.{wire}
@@ -25,10 +26,9 @@ written n zero g frame state = state
 written n (suc k) g frame state =
     pick (right (wire n k frame)) (storing k g (take 6 (wire n k frame)) (written n k g frame state)) (written n k g frame state)
 
--- The word of a write: bit k - 1 for each device k that stored.
+-- The word of a write: bit k - 1 for each device k, of 1 to k, that stored.
 unfoldable pub storedBits : ℕ → ℕ → List ℕ → ℕ
-storedBits n zero frame = 0
-storedBits n (suc k) frame = storedBits n k frame + pick (right (wire n k frame)) (2 ^ k) 0
+storedBits n k frame = bitsWhere (λ (j : ℕ). right (wire n j frame)) k
 
 -- A clear: `count` groups from g on become 0xFF, on devices 1 to k. From 2 on it is groups 2 to 7, from 8 on groups 8 to 11.
 unfoldable pub clearCount : ℕ → ℕ

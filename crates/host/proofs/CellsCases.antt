@@ -9,12 +9,12 @@ use lib.Dec.{eqb}
 use lib.ListN.{length, getD, replicate}
 use Rattle.lent.specs.Memory.{over}
 use Rattle.lent.specs.Refusal.{pick, first}
+use Rattle.lent.proofs.BitsWhere.{bits-below, bits-at}
 use Rattle.lent.proofs.Over.{over-full}
 use Rattle.lent.proofs.Pick.{pick-true}
 use Rattle.host.specs.Marks.{anyAbove}
 use Rattle.host.specs.Cells.{countAt, validAt, countsOf, bitsOf, cellsNumber, ReadsCells}
 use Rattle.host.specs.declared.cells.Readings.{Readings}
-use Rattle.host.proofs.Bits.{bits-lt, bit-at}
 use Rattle.host.proofs.Counts.{length-counts, count-at}
 
 -- what the code's `refused` gives
@@ -60,7 +60,9 @@ module _ (groups marks : List ℕ) where
     each-count c h = rw (w .counts, pick-true (eqb (cellsNumber groups marks) 0) (countsOf 18 groups marks) (replicate 18 0) done) (count-at groups marks 18 c h)
 
     pub each-bit : (c : ℕ) → c < 18 → r .valid / 2 ^ c % 2 ≡ pick (validAt marks c) 1 0
-    each-bit c h = rw (w .valid, pick-true (eqb (cellsNumber groups marks) 0) (bitsOf 18 marks) 0 done) (bit-at marks 18 c h)
+    unfolding bitsOf
+    each-bit c h = rw (w .valid, pick-true (eqb (cellsNumber groups marks) 0) (bitsOf 18 marks) 0 done) (bits-at (validAt marks) 18 c h)
 
     pub eighteen-bits : r .valid < 2 ^ 18
-    eighteen-bits = rw (w .valid, pick-true (eqb (cellsNumber groups marks) 0) (bitsOf 18 marks) 0 done) (bits-lt marks 18)
+    unfolding bitsOf
+    eighteen-bits = rw (w .valid, pick-true (eqb (cellsNumber groups marks) 0) (bitsOf 18 marks) 0 done) (bits-below (validAt marks) 18)

@@ -2,17 +2,19 @@
 use mathlib.Core.Path.{_≡_, refl, sym, ap, ap₂, _∙_}
 use mathlib.Core.Bool.{Bool, true, false}
 use mathlib.Core.Logic.{⊎-elim}
-use mathlib.Core.List.{List, [], _∷_, _++_}
+use mathlib.Core.List.{List, [], _∷_}
 use Prim.Native.Nat.{ℕ, zero, suc, _+_, _*_, _≤_, _<_}
 use native.Mathlib.Nat.{le-of-suc-le-suc, not-suc-le-zero, eq-or-lt-of-le}
 use native.Mathlib.Omega.{arith}
 use borrow.Author.Tests.{eqb-true}
 use lib.Dec.{eqb}
-use lib.ListN.{length, getD, drop, length-drop, List·getD-append}
-use lib.Seq.{getD-at, drop-at, take-all, drop-append-le, take-append-le}
+use lib.ListN.{length, getD, drop, List·getD-append}
+use lib.Seq.{getD-at}
 use Rattle.lent.specs.Refusal.{pick}
 use Rattle.lent.specs.Memory.{over}
+use Rattle.lent.proofs.Over.{getD-over}
 use Rattle.frames.specs.Places.{six, eight}
+use Rattle.frames.proofs.GroupLaws.{six-front, six-last}
 use Rattle.host.specs.Marks.{markOf, bytesOf}
 use Rattle.host.specs.Reader.{allBytes, allMarks, readerNumber, readerBytes, readerMarks, HandsOut}
 use Rattle.host.proofs.MarkLaws.{length-bytesOf}
@@ -30,15 +32,6 @@ mark-at (suc n) k reply h =
     (λ l. List·getD-append (allMarks n reply) (markOf (eight n reply) ∷ []) 0 k (omega arith) ∙ mark-at n k reply l)
     (eq-or-lt-of-le (le-of-suc-le-suc h))
 
-six-front : (k : ℕ) (xs ys : List ℕ) → 6 * k + 6 ≤ length xs → six k (xs ++ ys) ≡ six k xs
-unfolding six
-six-front k xs ys h =
-    rw (drop-append-le (6 * k) xs ys (omega arith)) (take-append-le 6 (drop (6 * k) xs) ys (omega (arith, length-drop (6 * k) xs)))
-
-six-last : (k : ℕ) (xs ys : List ℕ) → length xs ≡ 6 * k → length ys ≡ 6 → six k (xs ++ ys) ≡ ys
-unfolding six
-six-last k xs ys h e = rw (drop-at xs ys (6 * k) h) (take-all 6 ys (omega arith))
-
 pub six-at : (n k : ℕ) (reply : List ℕ) → k < n → 4 + 8 * n ≤ length reply → six k (allBytes n reply) ≡ bytesOf (eight k reply)
 unfolding allBytes
 six-at zero k reply h r = absurd (not-suc-le-zero h)
@@ -54,11 +47,11 @@ six-at (suc n) k reply h r =
 module _ (n code : ℕ) (reply bytes marks : List ℕ) (r : ℕ) (bytes′ marks′ : List ℕ) (k : ℕ) where
   pub device-mark : HandsOut n code reply bytes marks r bytes′ marks′ → k < n
       → getD marks′ k 0 ≡ pick (eqb r 0) (markOf (eight k reply)) (getD marks k 0)
-  unfolding readerMarks over pick
+  unfolding readerMarks pick
   device-mark h l = ap (λ (m : List ℕ). getD m k 0) (h .marksOut) ∙ go (eqb r 0)
     where
       go : (b : Bool) → getD (pick b (over (allMarks n reply) marks) marks) k 0 ≡ pick b (markOf (eight k reply)) (getD marks k 0)
-      go true = List·getD-append (allMarks n reply) (drop (length (allMarks n reply)) marks) 0 k (omega (arith, length-allMarks n reply)) ∙ mark-at n k reply l
+      go true = getD-over (allMarks n reply) marks k (omega (arith, length-allMarks n reply)) ∙ mark-at n k reply l
       go false = refl
 
   pub device-bytes : HandsOut n code reply bytes marks r bytes′ marks′ → k < n

@@ -1,12 +1,13 @@
 -- The cell reading of one device: eighteen counts of 100 µV and a word of eighteen valid bits. Cell c of the paper is c - 1 here.
 -- Assumes nothing.
-use Prim.Native.Nat.{ℕ, zero, suc, _+_, _*_, _/_, _^_}
+use Prim.Native.Nat.{ℕ, zero, suc, _+_, _*_, _/_}
 use mathlib.Core.Path.{_≡_}
 use mathlib.Core.Bool.{Bool, not}
 use mathlib.Core.List.{List, [], _∷_, _++_}
 use lib.Dec.{eqb}
 use lib.ListN.{length, getD, replicate}
 use Rattle.lent.specs.Refusal.{pick, first}
+use Rattle.lent.specs.Word.{bitsWhere}
 use Rattle.host.specs.Marks.{wasRead, anyAbove}
 use Rattle.host.specs.declared.cells.Readings.{Readings}
 
@@ -24,8 +25,7 @@ countsOf zero groups marks = []
 countsOf (suc n) groups marks = countsOf n groups marks ++ (pick (validAt marks n) (countAt groups n) 0 ∷ [])
 
 unfoldable pub bitsOf : ℕ → List ℕ → ℕ
-bitsOf zero marks = 0
-bitsOf (suc n) marks = bitsOf n marks + pick (validAt marks n) (2 ^ n) 0
+bitsOf n marks = bitsWhere (validAt marks) n
 
 -- The number: the first that applies.
 unfoldable pub cellsNumber : List ℕ → List ℕ → ℕ

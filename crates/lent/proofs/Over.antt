@@ -3,7 +3,7 @@ use mathlib.Core.Path.{_≡_, refl, sym, ap, _∙_}
 use mathlib.Core.List.{List, [], _∷_, _++_, append-assoc, append-nil}
 use Prim.Native.Nat.{ℕ, suc, _+_, _-_, _≤_, _<_}
 use native.Mathlib.Omega.{arith}
-use lib.ListN.{replicate, length-replicate, set, getD, length, take, drop, length-append, length-take, length-drop, drop-of-length-le}
+use lib.ListN.{replicate, length-replicate, set, getD, length, take, drop, length-append, length-take, length-drop, drop-of-length-le, List·getD-append}
 use lib.Seq.{append-snoc, take-length, drop-cons, set-at, take-at, drop-at, take-add, drop-drop, length-take-le, take-all}
 use borrow.Rule.Slice.PartMut.{putMid}
 use Rattle.lent.specs.Memory.{over}
@@ -110,3 +110,12 @@ two-more d part x y e =
     rw (take-length, two, set-at d (getD part (length d) 0) (getD part (suc (length d)) 0 ∷ []) x (length d) refl)
     (rw (← append-snoc d x (getD part (suc (length d)) 0 ∷ []))
     (set-at (d ++ (x ∷ [])) (getD part (suc (length d)) 0) [] y (length d + 1) one-more ∙ append-snoc d x (y ∷ [])))
+
+-- what was laid over reads back
+pub take-over : (new old : List ℕ) (n : ℕ) → length new ≡ n → take n (over new old) ≡ new
+unfolding over
+take-over new old n e = take-at new (drop (length new) old) n e
+
+pub getD-over : (new old : List ℕ) (k : ℕ) → k < length new → getD (over new old) k 0 ≡ getD new k 0
+unfolding over
+getD-over new old k h = List·getD-append new (drop (length new) old) 0 k h

@@ -1,3 +1,4 @@
 pub mod Bytes
 pub mod Memory
 pub mod Refusal
+pub mod Word

@@ -9,7 +9,10 @@ use lib.ListN.{length, getD, replicate, length-replicate, getD-replicate}
 use lib.Seq.{ext-getD}
 use Rattle.lent.specs.Bytes.{Bytes}
 use Rattle.lent.specs.Memory.{over}
+use Rattle.lent.proofs.BitsWhere.{bits-all}
+use Rattle.lent.proofs.Over.{getD-over}
 use Rattle.lent.proofs.Pick.{pick-false}
+use Rattle.pec.specs.Group.{right}
 use Rattle.pec.specs.Noise.{hit}
 use Rattle.pec.proofs.Mask.{unhit-take, unhit-part}
 use Rattle.frames.specs.Kind.{dataNeeded, frameLength}
@@ -18,7 +21,7 @@ use Rattle.frames.proofs.Lookup.{group-below}
 use Rattle.frames.proofs.Sizes.{at-least, at-most}
 use Rattle.frames.proofs.FrameParts as FrameParts
 use Rattle.chain.specs.State.{stateLength, stored}
-use Rattle.chain.proofs.WriteLaws.{bits-all}
+use Rattle.chain.specs.Effect.{storedBits}
 use Rattle.host.specs.Reader.{allBytes, allMarks}
 use Rattle.host.proofs.ReaderLaws.{length-allMarks}
 use Rattle.link.specs.Rig.{ours}
@@ -28,7 +31,7 @@ use Rattle.link.specs.Promise.{lost, missed, unread, sweeps, Obeys}
 use Rattle.link.specs.Demands.{Demand3, Quiet, held, Undisturbed, after, Demand2}
 use Rattle.link.proofs.Held.{six-ext, length-held, six-held}
 use Rattle.link.proofs.WriteFrame.{bytes-long, word-write, wire-right}
-use Rattle.link.proofs.ReadFrame.{marks-given, bytes-given, bytes-size, getD-over, six-over}
+use Rattle.link.proofs.ReadFrame.{marks-given, bytes-given, bytes-size, six-over}
 use Rattle.link.proofs.OneFrame.{obeys, size, are-bytes}
 
 pub demand3 : Demand3 ours
@@ -66,9 +69,10 @@ module _ (n : ℕ) (a : 1 ≤ n) (b : n ≤ 16) (state : List ℕ) (are : Bytes 
   g18 = group-below (s .code)
 
   word-full : kind s ≡ 1 → step ours n s state .word ≡ 2 ^ n - 1
+  unfolding storedBits
   word-full w =
       word-write n a b s state F are whole w good
-      ∙ bits-all n n (arrives ours n s) (λ k h. wire-right n a b s state F are whole w k h ∙ ap not (quiet-wire n s k (quiet .0)))
+      ∙ bits-all (λ (i : ℕ). right (wire n i (arrives ours n s))) n (λ k h. wire-right n a b s state F are whole w k h ∙ ap not (quiet-wire n s k (quiet .0)))
 
   stores : kind s ≡ 1 → held n (group s) (step ours n s state .registers) ≡ s .bytes
   stores w =

@@ -1,13 +1,14 @@
 -- Six bytes for each device, one device after the other: two such lists are equal where they agree at each device. Assumes nothing.
-use mathlib.Core.Path.{_≡_, refl, sym, ap, ap₂, _∙_, subst}
+use mathlib.Core.Path.{_≡_, refl, sym, ap, ap₂, _∙_}
 use mathlib.Core.Logic.{⊎-elim}
 use mathlib.Core.List.{List, _++_}
 use Prim.Native.Nat.{ℕ, zero, suc, _+_, _*_, _/_, _%_, _≤_, _<_}
 use native.Mathlib.Nat.{le-of-suc-le-suc, eq-or-lt-of-le}
 use native.Mathlib.Omega.{arith}
-use lib.ListN.{length, take, drop, length-append, length-drop}
-use lib.Seq.{take-add, take-all, drop-at, drop-append-le, take-append-le}
+use lib.ListN.{length, take, drop, length-append}
+use lib.Seq.{take-add, take-all}
 use Rattle.frames.specs.Places.{six}
+use Rattle.frames.proofs.GroupLaws.{six-front, six-last}
 use Rattle.chain.specs.State.{stateLength, spot, stored}
 use Rattle.chain.proofs.StateLaws.{length-stored}
 use Rattle.link.specs.Demands.{held}
@@ -40,15 +41,11 @@ module _ (n g : ℕ) (state : List ℕ) (hg : g < 18) (whole : length state ≡ 
       length-append (held j g state) (stored j g state) ∙ omega (arith, length-held j (omega arith), length-stored n j g state h hg whole)
 
   pub six-held : (j k : ℕ) → j ≤ n → k < j → six k (held j g state) ≡ stored k g state
-  unfolding held six
+  unfolding held
   six-held zero k h a = absurd (omega arith)
   six-held (suc j) k h a =
-      let e = length-held j (omega arith) in
-      let q = length-stored n j g state h hg whole in
+      let long = length-held j (omega arith) in
       ⊎-elim
-      (λ c. subst (λ (i : ℕ). take 6 (drop (6 * i) (held j g state ++ stored j g state)) ≡ stored i g state) (sym c)
-      (ap (take 6) (drop-at (held j g state) (stored j g state) (6 * j) e) ∙ take-all 6 (stored j g state) (omega arith)))
-      (λ c. ap (take 6) (drop-append-le (6 * k) (held j g state) (stored j g state) (omega arith))
-      ∙ take-append-le 6 (drop (6 * k) (held j g state)) (stored j g state) (omega (arith, length-drop (6 * k) (held j g state)))
-      ∙ six-held j k (omega arith) c)
+      (λ e. six-last k (held j g state) (stored j g state) (omega arith) (length-stored n j g state h hg whole) ∙ ap (λ (i : ℕ). stored i g state) (sym e))
+      (λ l. six-front k (held j g state) (stored j g state) (omega arith) ∙ six-held j k (omega arith) l)
       (eq-or-lt-of-le (le-of-suc-le-suc a))

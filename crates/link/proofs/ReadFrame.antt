@@ -8,13 +8,12 @@ use Prim.Native.Nat.{ℕ, _+_, _*_, _-_, _^_, _≤_, _<_}
 use native.Mathlib.Omega.{arith}
 use borrow.Author.Tests.{eqb-true, eqb-false, eq-eqb, ne-eqb}
 use lib.Dec.{eqb}
-use lib.ListN.{length, take, drop, getD, replicate, length-append, length-drop, length-replicate, List·getD-append}
-use lib.Seq.{take-at, drop-append-le, take-append-le}
+use lib.ListN.{length, take, drop, getD, replicate, length-append}
 use Rattle.lent.specs.Bytes.{Bytes}
 use Rattle.lent.specs.Memory.{over}
 use Rattle.lent.specs.Refusal.{pick}
 use Rattle.lent.proofs.Bytes.{bytes-take, bytes-drop}
-use Rattle.lent.proofs.Over.{length-over}
+use Rattle.lent.proofs.Over.{length-over, take-over, getD-over}
 use Rattle.lent.proofs.Pick.{pick-true, pick-false}
 use Rattle.lent.proofs.Tests.{clash}
 use Rattle.pec.specs.Group.{withPec, right}
@@ -26,10 +25,11 @@ use Rattle.frames.specs.Kind.{frameLength}
 use Rattle.frames.specs.Places.{six, eight}
 use Rattle.frames.proofs.Lookup.{group-below}
 use Rattle.frames.proofs.KindCases.{length-long}
+use Rattle.frames.proofs.GroupLaws.{six-front}
 use Rattle.chain.specs.State.{stateLength, stored}
 use Rattle.chain.specs.Effect.{silence, answers, answer, cleared, clearCount, changed, report}
 use Rattle.chain.proofs.StateLaws.{length-stored, bytes-stored}
-use Rattle.chain.proofs.ClearLaws.{part-silence}
+use Rattle.chain.proofs.ClearLaws.{length-silence, part-silence}
 use Rattle.chain.proofs.ReadLaws.{length-answers, eight-answers}
 use Rattle.host.specs.Marks.{markOf, bytesOf}
 use Rattle.host.specs.Reader.{allBytes, allMarks, readerBytes, readerMarks}
@@ -83,28 +83,14 @@ eight-silence : (n k : ℕ) → k < n → eight k (silence (4 + 8 * n)) ≡ sile
 unfolding eight
 eight-silence n k h = part-silence (4 + 8 * k) 8 (4 + 8 * n) (omega arith)
 
-length-silence : (m : ℕ) → length (silence m) ≡ m
-unfolding silence
-length-silence m = length-replicate {A = ℕ} m 255
-
 eight-noisy : (k : ℕ) (mask reply : List ℕ) → eight k (noisy mask reply) ≡ noisy (eight k mask) (eight k reply)
 unfolding eight
 eight-noisy k mask reply = part-noisy 8 (4 + 8 * k) mask reply
 
--- what is laid over lent memory reads back
-over-take : (new old : List ℕ) (long : ℕ) → length new ≡ long → take long (over new old) ≡ new
-unfolding over
-over-take new old long e = take-at new (drop (length new) old) long e
-
-pub getD-over : (new old : List ℕ) (k : ℕ) → k < length new → getD (over new old) k 0 ≡ getD new k 0
-unfolding over
-getD-over new old k h = List·getD-append new (drop (length new) old) 0 k h
-
+-- device k + 1's six bytes in lent memory that they were laid over
 pub six-over : (new old : List ℕ) (k : ℕ) → 6 * k + 6 ≤ length new → six k (over new old) ≡ six k new
-unfolding over six
-six-over new old k h =
-    ap (take 6) (drop-append-le (6 * k) new (drop (length new) old) (omega arith))
-    ∙ take-append-le 6 (drop (6 * k) new) (drop (length new) old) (omega (arith, length-drop (6 * k) new))
+unfolding over
+six-over new old k h = six-front k new (drop (length new) old) h
 
 module _ (n : ℕ) (n1 : 1 ≤ n) (n16 : n ≤ 16) (s : Sending) (state : List ℕ) (F : Fair n s) (are : Bytes state) (whole : length state ≡ stateLength n) (q : kind s ≡ 2) where
   g18 : group s < 18
@@ -123,7 +109,7 @@ module _ (n : ℕ) (n1 : 1 ≤ n) (n16 : n ≤ 16) (s : Sending) (state : List �
   returns-lost e =
       unhit-same (s .back) (take (length (frame ours n s)) (serves ours n s state .reply)) (quiet-back e)
       ∙ ap (take (length (frame ours n s))) (Arrival.reply-lost n n1 n16 s state F whole e)
-      ∙ over-take (silence (length (arrives ours n s))) (s .reply) (length (frame ours n s))
+      ∙ take-over (silence (length (arrives ours n s))) (s .reply) (length (frame ours n s))
       (length-silence (length (arrives ours n s)) ∙ Arrival.arrives-long n n1 n16 s state F whole ∙ sym (Arrival.frame-long n n1 n16 s state F whole))
       ∙ ap silence (Arrival.arrives-long n n1 n16 s state F whole ∙ long)
 
@@ -143,7 +129,7 @@ module _ (n : ℕ) (n1 : 1 ≤ n) (n16 : n ≤ 16) (s : Sending) (state : List �
   returns-good e =
       ap (λ (l : List ℕ). noisy (s .back) (take (length (frame ours n s)) l))
       (Arrival.reply-good n n1 n16 s state F whole e ∙ ap (λ (l : List ℕ). over l (s .reply)) answer-read)
-      ∙ ap (noisy (s .back)) (over-take answered (s .reply) (length (frame ours n s)) (answered-long ∙ sym (Arrival.frame-long n n1 n16 s state F whole ∙ long)))
+      ∙ ap (noisy (s .back)) (take-over answered (s .reply) (length (frame ours n s)) (answered-long ∙ sym (Arrival.frame-long n n1 n16 s state F whole ∙ long)))
 
   pub returns-long : length (returns ours n s state) ≡ 4 + 8 * n
   returns-long = go (lost s) refl

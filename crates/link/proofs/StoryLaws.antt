@@ -3,15 +3,13 @@ use mathlib.Core.Path.{_≡_, refl, sym, ap, _∙_}
 use mathlib.Core.Bool.{Bool, true, false, not, _||_, _&&_}
 use mathlib.Core.Logic.{⊎-elim}
 use mathlib.Core.List.{List, [], _∷_}
-use Prim.Native.Nat.{ℕ, zero, suc, _+_, _/_, _%_, _^_, _≤_, _<_}
-use native.Mathlib.Nat.{pow-suc}
-use native.Mathlib.Omega.{arith}
+use Prim.Native.Nat.{ℕ, _≤_, _<_}
 use borrow.Author.Tests.{eqb-true, eqb-false}
 use lib.Dec.{eqb}
 use lib.ListN.{length, getD, replicate}
-use lib.Pow.{shr-shr}
 use Rattle.lent.specs.Bytes.{Bytes}
 use Rattle.lent.specs.Refusal.{pick}
+use Rattle.lent.proofs.BitsWhere.{bits-ext}
 use Rattle.lent.proofs.Pick.{pick-true, pick-false}
 use Rattle.frames.specs.Places.{six}
 use Rattle.frames.proofs.Lookup.{group-below}
@@ -108,18 +106,6 @@ pub our-story : Story ours
 our-story = story ours demand3
 
 -- THE PROMISE LEAVES NO CHOICE: registers, word and numbers are determined, and so are the bytes read and which marks are 0.
-bits-ext : (n x y : ℕ) → x < 2 ^ n → y < 2 ^ n → ((k : ℕ) → k < n → x / 2 ^ k % 2 ≡ y / 2 ^ k % 2) → x ≡ y
-bits-ext zero x y lx ly e = omega arith
-bits-ext (suc n) x y lx ly e =
-    let p = pow-suc 2 n in
-    let lowest : x / 2 ^ 0 % 2 ≡ y / 2 ^ 0 % 2 = e 0 (omega arith) in
-    let others : x / 2 ≡ y / 2 =
-    bits-ext n (x / 2) (y / 2) (omega arith) (omega arith)
-    (λ k h. let q : 1 + k ≡ suc k = omega arith in
-    ap (λ (i : ℕ). i % 2) (shr-shr x 1 k ∙ ap (λ (i : ℕ). x / 2 ^ i) q) ∙ e (suc k) (omega arith)
-    ∙ sym (ap (λ (i : ℕ). i % 2) (shr-shr y 1 k ∙ ap (λ (i : ℕ). y / 2 ^ i) q))) in
-    omega arith
-
 module _ (R R′ : Rig) (n : ℕ) (s : Sending) (before : List ℕ) (r r′ : Seen) (O : Obeys R n s before r) (O′ : Obeys R′ n s before r′) where
   pub same-registers : r .registers ≡ r′ .registers
   same-registers =

@@ -10,6 +10,7 @@ use lib.Pow.{pow-pos}
 use Rattle.lent.specs.Bytes.{Bytes}
 use Rattle.lent.specs.Refusal.{pick}
 use Rattle.lent.proofs.Bytes.{bytes-take, bytes-drop}
+use Rattle.lent.proofs.BitsWhere.{bit-zero, bits-below, bits-at}
 use Rattle.lent.proofs.Pick.{pick-true, pick-not}
 use Rattle.pec.specs.Group.{withPec, right}
 use Rattle.pec.specs.Noise.{noisy, hit}
@@ -23,7 +24,7 @@ use Rattle.frames.proofs.GroupLaws.{length-six}
 use Rattle.frames.proofs.FrameParts.{wire-frame, bytes-six, bytes-write-frame}
 use Rattle.chain.specs.State.{stateLength, stored}
 use Rattle.chain.specs.Effect.{written, storedBits, changed, report}
-use Rattle.chain.proofs.WriteLaws.{length-wire, length-written, written-own, written-other, bytes-written, bits-below, bits-at, bit-zero}
+use Rattle.chain.proofs.WriteLaws.{length-wire, length-written, written-own, written-other, bytes-written}
 use Rattle.link.specs.Rig.{ours}
 use Rattle.link.specs.Sending.{Sending, kind, group, Fair}
 use Rattle.link.specs.Step.{frame, arrives, step}
@@ -102,17 +103,18 @@ module _ (n : ℕ) (n1 : 1 ≤ n) (n16 : n ≤ 16) (s : Sending) (state : List �
       ap (stored k h) (state-write e) ∙ written-other n (group s) (arrives ours n s) state g18 arrives-long whole n k h (omega arith) lh (λ x y. ne y)
 
   word : (b : Bool) → lost s ≡ b → (k : ℕ) → k < n → step ours n s state .word / 2 ^ k % 2 ≡ pick (b || hit (wire n k (s .forth))) 0 1
-  unfolding pick
+  unfolding pick storedBits
   word true e k h = ap (λ (x : ℕ). x / 2 ^ k % 2) (Arrival.word-lost n n1 n16 s state F whole e) ∙ bit-zero k
   word false e k h =
       ap (λ (x : ℕ). x / 2 ^ k % 2) (word-write e)
-      ∙ bits-at n n k (arrives ours n s) h
+      ∙ bits-at (λ (i : ℕ). right (wire n i (arrives ours n s))) n k h
       ∙ ap (λ (b : Bool). pick b 1 0) (wire-right k h)
       ∙ pick-not (hit (wire n k (s .forth))) 1 0
 
   no-more : (b : Bool) → lost s ≡ b → step ours n s state .word < 2 ^ n
+  unfolding storedBits
   no-more true e = subst (λ (x : ℕ). x < 2 ^ n) (sym (Arrival.word-lost n n1 n16 s state F whole e)) (pow-pos n)
-  no-more false e = subst (λ (x : ℕ). x < 2 ^ n) (sym (word-write e)) (bits-below n n (arrives ours n s))
+  no-more false e = subst (λ (x : ℕ). x < 2 ^ n) (sym (word-write e)) (bits-below (λ (i : ℕ). right (wire n i (arrives ours n s))) n)
 
   pub writes : Writes n s state (step ours n s state)
   unfolding missed

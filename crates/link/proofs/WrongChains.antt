@@ -10,6 +10,7 @@ use lib.ListN.{length, take, drop, set, getD, replicate, length-append}
 use lib.Seq.{drop-at}
 use Rattle.lent.specs.Memory.{over, splice}
 use Rattle.lent.specs.Refusal.{pick, first}
+use Rattle.lent.specs.Word.{bitsWhere}
 use Rattle.lent.proofs.Pick.{pick-true}
 use Rattle.pec.specs.Register as Register
 use Rattle.pec.specs.Register.{remainderOf, pecOf}
@@ -101,7 +102,7 @@ abbrev generous : Rig
 generous = withRegisters (λ n frame state reply. pick (eqb (ours .chain n frame state reply .word) 0) state (spill n n (groupOf (codeOf frame)) frame state))
 
 generous-stores : getD (stored 1 0 (step generous 2 hurt (replicate 216 7) .registers)) 0 0 ≡ 4
-unfolding step serves arrives frame noisy hurt splice stored spot wire chainNumber chainWord report storedBits first pick outside right offBy sent body codeOf stateLength frameLength kindOf groupOf rows found writerNumber writerLength writerOut dataNeeded frameOf frameBody writeGroups withPec six twoBytes over pecOf remainderOf Register.step
+unfolding step serves arrives frame noisy hurt splice stored spot wire chainNumber chainWord report storedBits bitsWhere first pick outside right offBy sent body codeOf stateLength frameLength kindOf groupOf rows found writerNumber writerLength writerOut dataNeeded frameOf frameBody writeGroups withPec six twoBytes over pecOf remainderOf Register.step
 generous-stores = refl
 
 generous-own : (registers : List ℕ) → getD (stored 1 0 registers) 0 0 ≡ 4 → stored 1 0 registers ≡ stored 1 0 (replicate 216 7) → ⊥

@@ -4,9 +4,13 @@ use Prim.Native.Nat.{ℕ, _+_, _-_, _*_, _^_, _≤_}
 use native.Mathlib.Omega.{arith}
 use borrow.Rule.Slice.PartMut.{same-len-mid}
 use lib.ListN.{length}
+use Rattle.lent.specs.Word.{bitsWhere}
+use Rattle.lent.proofs.BitsWhere.{bit-or-none, bits-below}
+use Rattle.pec.specs.Group.{right}
+use Rattle.frames.specs.Places.{wire}
 use Rattle.chain.specs.Effect.{written, storedBits}
 use Rattle.chain.proofs.StateLaws.{room-at, size-most}
-use Rattle.chain.proofs.WriteLaws.{turn, turn-word, bit-or-none, pow-step, bit-small, bits-below}
+use Rattle.chain.proofs.WriteLaws.{turn, turn-word, pow-step, bit-small}
 use Rattle.chain.proofs.write.store_groups.Statement.{statement}
 use Rattle.chain.proofs.write.store_groups.Tie as tie
 
@@ -18,7 +22,7 @@ abbrev μ-loop : tie.MeasureT-loop
 μ-loop table n group frame state₀ k₀ word₀ bit₀ state k word bit = n - k
 
 loop-holds : tie.Need-loop-holds Inv-loop μ-loop
-unfolding written storedBits
+unfolding written storedBits bitsWhere
 loop-holds c = (omega arith, refl, refl, refl, refl)
 
 spot-requires : tie.Need-spot-requires Inv-loop μ-loop
@@ -69,11 +73,18 @@ take-group-requires : tie.Need-take-group-requires Inv-loop μ-loop
 take-group-requires c κs = (c .before .before .before .before .before .before .before .pre .0, omega arith, omega arith)
 
 add-word : tie.Need-add-word Inv-loop μ-loop
+unfolding storedBits
 add-word c =
     let a = c .before .before .before .before .before .before .before .before .before .before .args in
     let l = c .before .before .before .before .before .before .before .loop in
-    omega (arith, l .inv .1, l .inv .2, bit-small (a .n) (l .k) (omega arith) (omega arith), bits-below (a .n) (l .k) (a .frame .now),
-    bit-or-none _ _ _ (c .before .before .take-group .ensures .0))
+    omega (
+      arith,
+      l .inv .1,
+      l .inv .2,
+      bit-small (a .n) (l .k) (omega arith) (omega arith),
+      bits-below (λ (j : ℕ). right (wire (a .n) j (a .frame .now))) (l .k),
+      bit-or-none _ _ _ (c .before .before .take-group .ensures .0),
+    )
 
 mul-bit : tie.Need-mul-bit Inv-loop μ-loop
 mul-bit c = omega (arith, c .before .before .before .before .before .before .before .loop .inv .1, bit-small (c .before .before .before .before .before .before .before .before .before .before .args .n) (c .before .before .before .before .before .before .before .loop .k) (omega arith) (omega arith))

@@ -3,6 +3,7 @@ use mathlib.Core.Path.{_≡_, refl, sym, _∙_}
 use Prim.Native.Nat.{_≤_, _-_}
 use native.Mathlib.Omega.{arith}
 use Rattle.lent.specs.Memory.{over}
+use Rattle.lent.specs.Word.{bitsWhere}
 use Rattle.lent.proofs.Over.{over-none}
 use Rattle.host.specs.Cells.{countsOf, bitsOf}
 use Rattle.host.proofs.Bits.{turn-bits, fits}
@@ -42,7 +43,7 @@ returns-3 c =
     (sym (c .before .before .any-above .ensures) ∙ c .before .if3 .taken)
 
 loop-holds : tie.Need-loop-holds Inv-loop μ-loop
-unfolding countsOf bitsOf
+unfolding countsOf bitsOf bitsWhere
 loop-holds c = (omega arith, over-none _, refl)
 
 is-valid-requires : tie.Need-is-valid-requires Inv-loop μ-loop
