@@ -1,0 +1,309 @@
+/* rig.h: the chain rig in C. A model of 1 to 16 LTC6813-1 cell monitors on one pair of wires, and the host side of a
+ * controller that polls them: check word, frame writer, reply reader, cell readings, link tally and wake rule.
+ *
+ * Every entry is proved, for all inputs, to give the number, the values and the lent bytes that its page below states. It
+ * never allocates, keeps nothing between calls, and needs under 2 KB of stack; two threads may call it at once, each on
+ * its own buffers. Link with librig.a (pkg-config rig); it calls nothing but memset.
+ *
+ * WORDS OF THE TRADE
+ *   n        the devices of the chain, 1 to 16; device 1 is next to the controller
+ *   frame    what goes out while chip select is low: a command group, then for a read or write n data groups
+ *   group    six bytes and their check word, two bytes; a command group is two bytes and their check word
+ *   reply    what comes in meanwhile, byte for byte as long as the frame
+ *   number   what a call came to: 0 is done, any other is a refusal (RIG_DONE and on)
+ *   mark     what became of one device's group in a reply: read, wrong or silent (RIG_MARK_READ and on)
+ *   state    the registers of all devices: device k has 18 groups of six bytes, group g at 108 * (k - 1) + 6 * g
+ *   lent     memory of the caller's that an entry reads or fills; host data is always in device order, device k at 6 * (k - 1)
+ *
+ * WHAT C MUST KEEP, for every entry. Nothing checks it, and nothing is promised where it is broken.
+ *   - Each length is the true length of its buffer, or less: nothing outside it is read or written.
+ *   - A buffer that an entry fills stands apart from every other buffer of the call. Two that are only read may overlap.
+ *   - A pointer may be NULL where its length is 0, and only there. The tally's pointer is never NULL.
+ *   - A struct rig_tally stands where the compiler would put one (aligned to 4 bytes).
+ *   - No other thread changes a lent buffer during the call.
+ *
+ * A refusal changes nothing lent, but for one case that rig_chain states. Where several refusals apply, the first of the
+ * entry's list is given. Numbers wider than they need be are wide on purpose: n 65537 is refused, and not cut down to 1.
+ *
+ * Compiles as C99 and later and as C++98 and later.
+ */
+#ifndef RIG_H
+#define RIG_H
+
+#include <stddef.h>
+#include <stdint.h>
+
+#ifdef __cplusplus
+extern "C" {
+#endif
+
+/* ---- Numbers that a call can come back with ---------------------------------------------------------------------- */
+
+#define RIG_DONE 0            /* done */
+#define RIG_BAD_SIZE 1        /* n is not 1 to 16; of a tally, the marks are not 1 to 16 */
+#define RIG_UNKNOWN_COMMAND 2 /* the command is not one of the 26 */
+#define RIG_WRONG_LENGTH 3    /* lent data, state or reply of the wrong length; or a mark above 2 */
+#define RIG_COMMAND_PEC 4     /* the frame's command group has a wrong check word */
+#define RIG_OUTPUT_SHORT 5    /* a lent output is too short */
+#define RIG_FRAME_LENGTH 6    /* the frame has under 4 bytes, or not the length of its command */
+#define RIG_NO_READ 7         /* the command is no read */
+#define RIG_TALLY_FULL 8      /* a count of the tally would pass 4,294,967,295 */
+
+/* ---- Marks: what became of one device's group in a reply ---------------------------------------------------------- */
+
+#define RIG_MARK_READ 0   /* its check word is right: the six bytes are what the device sent */
+#define RIG_MARK_WRONG 1  /* its check word is wrong */
+#define RIG_MARK_SILENT 2 /* eight bytes 0xFF: no device drove the line */
+
+/* ---- Sizes ------------------------------------------------------------------------------------------------------- */
+
+#define RIG_DEVICES 16     /* the longest chain */
+#define RIG_GROUPS 18      /* register groups of a device */
+#define RIG_CELLS 18       /* cells of a device */
+#define RIG_GROUP_BYTES 6  /* bytes of a group, without its check word */
+#define RIG_COMMAND_BYTES 4 /* the frame of a clear: a command group */
+#define RIG_DATA_BYTES(n) ((size_t)6 * (n))      /* host data of a write or read, for n devices */
+#define RIG_FRAME_BYTES(n) ((size_t)4 + (size_t)8 * (n)) /* the frame of a write or read, and its reply */
+#define RIG_STATE_BYTES(n) ((size_t)108 * (n))   /* the state of n devices */
+
+/* ---- Register groups --------------------------------------------------------------------------------------------- */
+
+#define RIG_GROUP_CFGA 0
+#define RIG_GROUP_CFGB 1
+#define RIG_GROUP_CVA 2
+#define RIG_GROUP_CVB 3
+#define RIG_GROUP_CVC 4
+#define RIG_GROUP_CVD 5
+#define RIG_GROUP_CVE 6
+#define RIG_GROUP_CVF 7
+#define RIG_GROUP_AUXA 8
+#define RIG_GROUP_AUXB 9
+#define RIG_GROUP_AUXC 10
+#define RIG_GROUP_AUXD 11
+#define RIG_GROUP_STATA 12
+#define RIG_GROUP_STATB 13
+#define RIG_GROUP_COMM 14
+#define RIG_GROUP_SCTRL 15
+#define RIG_GROUP_PWM 16
+#define RIG_GROUP_PSB 17
+
+/* ---- The 26 commands: WR writes a group, RD reads it, CLR sets groups to 0xFF. CVD and CVE, AUXB and AUXC are out of
+ * order in the data sheet, and so they are here. -------------------------------------------------------------------- */
+
+#define RIG_WRCFGA 0x001
+#define RIG_RDCFGA 0x002
+#define RIG_WRCFGB 0x024
+#define RIG_RDCFGB 0x026
+#define RIG_RDCVA 0x004
+#define RIG_RDCVB 0x006
+#define RIG_RDCVC 0x008
+#define RIG_RDCVD 0x00A
+#define RIG_RDCVE 0x009
+#define RIG_RDCVF 0x00B
+#define RIG_RDAUXA 0x00C
+#define RIG_RDAUXB 0x00E
+#define RIG_RDAUXC 0x00D
+#define RIG_RDAUXD 0x00F
+#define RIG_RDSTATA 0x010
+#define RIG_RDSTATB 0x012
+#define RIG_WRCOMM 0x721
+#define RIG_RDCOMM 0x722
+#define RIG_WRSCTRL 0x014
+#define RIG_RDSCTRL 0x016
+#define RIG_WRPWM 0x020
+#define RIG_RDPWM 0x022
+#define RIG_WRPSB 0x01C
+#define RIG_RDPSB 0x01E
+#define RIG_CLRCELL 0x711 /* groups CVA to CVF */
+#define RIG_CLRAUX 0x712  /* groups AUXA to AUXD */
+
+/* ---- Records ----------------------------------------------------------------------------------------------------- */
+
+struct rig_written {
+    uint8_t number;
+    size_t length; /* bytes of the frame; 0 on refusal */
+};
+
+struct rig_heard {
+    uint8_t number;
+    uint16_t word; /* bit k - 1: device k stored its group, or was cleared; 0 on a read or refusal */
+};
+
+struct rig_wait {
+    uint8_t number;
+    uint32_t wait; /* microseconds; 0 on refusal */
+};
+
+struct rig_readings {
+    uint8_t number;
+    uint16_t counts[18]; /* cell c at c - 1, in steps of 100 microvolts; 0 where it is not valid */
+    uint32_t valid;      /* bit c - 1: cell c is valid */
+};
+
+struct rig_tally {
+    uint32_t replies;
+    uint32_t read;
+    uint32_t wrong;
+    uint32_t silent;
+};
+
+/* ---- rig_pec: the check word of bytes ------------------------------------------------------------------------------
+ * The PEC15 of `bytes` as it is sent, high byte first: the 15-bit remainder times 2, so its lowest bit is 0.
+ *   bytes, bytes_len   any bytes; none at all have the word 0x0020
+ * Refuses nothing, and changes nothing.
+ *
+ *     uint8_t command[2] = {0x00, 0x01};
+ *     uint16_t word = rig_pec(command, 2);                              (word is 0x3D6E)
+ */
+uint16_t rig_pec(const uint8_t *bytes, size_t bytes_len);
+
+/* ---- rig_write: the frame of a command -----------------------------------------------------------------------------
+ * Lays the frame that sends `code` to a chain of n over the start of `out`. Device n's group goes first on the wire.
+ *   n                the devices of the chain
+ *   code             one of the 26 commands
+ *   data, data_len   of a write, six bytes a device in device order: RIG_DATA_BYTES(n); of a read or clear, none: NULL, 0
+ *   out, out_len     at least RIG_FRAME_BYTES(n), or RIG_COMMAND_BYTES for a clear
+ * Number, the first that applies:
+ *   RIG_BAD_SIZE          n is not 1 to 16
+ *   RIG_UNKNOWN_COMMAND   code is not one of the 26
+ *   RIG_WRONG_LENGTH      a write whose data are not 6n bytes, or a read or clear with any data
+ *   RIG_OUTPUT_SHORT      out is shorter than the frame
+ *   RIG_DONE              length bytes of out are the frame (a read's last 8n are 0xFF clock bytes); the rest is untouched
+ * On refusal length is 0 and out is untouched. data is only read.
+ *
+ *     uint8_t frame[RIG_FRAME_BYTES(16)];
+ *     struct rig_written out = rig_write(16, RIG_RDCVA, NULL, 0, frame, sizeof frame);
+ */
+struct rig_written rig_write(uint32_t n, uint32_t code, const uint8_t *data, size_t data_len, uint8_t *out, size_t out_len);
+
+/* ---- rig_chain: what n devices hear of a frame, and what they answer -------------------------------------------------
+ * Stands in for the chain: serves one frame on the registers in `state` and lays the answer over the start of `reply`.
+ * In a write each device checks its own group: right, it stores the six bytes; wrong, it keeps what it had. Clock bytes
+ * are not looked at.
+ *   n                  the devices of the chain
+ *   frame, frame_len   the frame as it came over the wire
+ *   state, state_len   the registers: RIG_STATE_BYTES(n), no more and no less
+ *   reply, reply_len   at least frame_len
+ * Number, the first that applies:
+ *   RIG_BAD_SIZE          n is not 1 to 16                                                     state, reply untouched
+ *   RIG_WRONG_LENGTH      state is not 108n bytes                                              state, reply untouched
+ *   RIG_OUTPUT_SHORT      reply is shorter than the frame                                      state, reply untouched
+ *   RIG_FRAME_LENGTH      the frame has under 4 bytes                                          state untouched, silence
+ *   RIG_COMMAND_PEC       the command group's check word is wrong, in any of its 16 bits       state untouched, silence
+ *   RIG_UNKNOWN_COMMAND   the command is not one of the 26                                     state untouched, silence
+ *   RIG_FRAME_LENGTH      the frame has not the length of its command on n devices             state untouched, silence
+ *   RIG_DONE              a write stores, a clear sets its groups to 0xFF: the answer is silence;
+ *                         a read leaves state untouched: 4 bytes 0xFF, then the group of device 1 and its check word, and on
+ * Silence: frame_len bytes 0xFF, what a wire shows that nobody drives. Bytes of reply past frame_len are always untouched.
+ * The word: on a write bit k - 1 for each device k that stored, on a clear the low n bits, otherwise 0.
+ *
+ *     uint8_t state[RIG_STATE_BYTES(16)] = {0}, reply[RIG_FRAME_BYTES(16)];
+ *     struct rig_heard heard = rig_chain(16, frame, out.length, state, sizeof state, reply, sizeof reply);
+ */
+struct rig_heard rig_chain(uint32_t n, const uint8_t *frame, size_t frame_len, uint8_t *state, size_t state_len, uint8_t *reply, size_t reply_len);
+
+/* ---- rig_read: what a reply holds ------------------------------------------------------------------------------------
+ * Gives six bytes and a mark for each device of the reply to a read. Each device stands alone: one wrong group says nothing
+ * of another. The reply's first four bytes, where the command went out, are ignored.
+ *   n                  the devices of the chain
+ *   code               the read command that the reply answers
+ *   reply, reply_len   RIG_FRAME_BYTES(n), no more and no less
+ *   data, data_len     at least RIG_DATA_BYTES(n)
+ *   marks, marks_len   at least n
+ * Number, the first that applies:
+ *   RIG_BAD_SIZE          n is not 1 to 16
+ *   RIG_UNKNOWN_COMMAND   code is not one of the 26
+ *   RIG_NO_READ           code is a write or a clear
+ *   RIG_WRONG_LENGTH      reply is not 4 + 8n bytes
+ *   RIG_OUTPUT_SHORT      data has under 6n bytes, or marks under n
+ *   RIG_DONE              data has device k's six bytes at 6(k - 1), and marks its mark at k - 1; where the mark is not
+ *                         RIG_MARK_READ the six bytes are 0x00. Past 6n bytes and n marks nothing is touched
+ * On refusal data and marks are untouched. reply is only read.
+ *
+ *     uint8_t data[RIG_DATA_BYTES(16)], marks[16];
+ *     uint8_t number = rig_read(16, RIG_RDCVA, reply, RIG_FRAME_BYTES(16), data, sizeof data, marks, sizeof marks);
+ */
+uint8_t rig_read(uint32_t n, uint32_t code, const uint8_t *reply, size_t reply_len, uint8_t *data, size_t data_len, uint8_t *marks, size_t marks_len);
+
+/* ---- rig_cells: the cells of one device -------------------------------------------------------------------------------
+ * Eighteen counts of 100 microvolts from the six groups CVA to CVF of one device, three cells a group, low byte first. A
+ * cell is valid where its group's mark is RIG_MARK_READ. All counts 0 to 65,535 are readings.
+ *   groups, groups_len   36 bytes: CVA, CVB, CVC, CVD, CVE, CVF
+ *   marks, marks_len     6 marks, one for each of them
+ * Number:
+ *   RIG_WRONG_LENGTH   groups are not 36 bytes, marks not 6, or a mark is above 2: all counts 0, no valid bit
+ *   RIG_DONE           counts[c - 1] and bit c - 1 of valid for cell c; a cell that is not valid has count 0, its bit clear
+ * groups and marks are only read.
+ *
+ *     struct rig_readings cells = rig_cells(groups, 36, marks, 6);
+ *     if ((cells.valid >> 17) & 1) volts = cells.counts[17] * 0.0001;   (cell 18)
+ */
+struct rig_readings rig_cells(const uint8_t *groups, size_t groups_len, const uint8_t *marks, size_t marks_len);
+
+/* ---- rig_tally_add: count a reply's marks -------------------------------------------------------------------------------
+ * Raises tally->replies by 1 and read, wrong and silent by the marks of their sort. From a tally of zeros read + wrong +
+ * silent is the number of marks of all replies that were taken.
+ *   tally              the controller's record, aligned, never NULL
+ *   marks, marks_len   the marks of one reply, 1 to 16 of them
+ * Number, the first that applies:
+ *   RIG_BAD_SIZE       there are no marks, or more than 16
+ *   RIG_WRONG_LENGTH   a mark is above 2
+ *   RIG_TALLY_FULL     one of the four counts would pass 4,294,967,295, which it may reach
+ *   RIG_DONE           all four counts are raised
+ * On refusal the tally is untouched. marks are only read.
+ *
+ *     struct rig_tally tally = {0, 0, 0, 0};
+ *     uint8_t number = rig_tally_add(&tally, marks, 16);
+ */
+uint8_t rig_tally_add(struct rig_tally *tally, const uint8_t *marks, size_t marks_len);
+
+/* ---- rig_wake: how long to wait before a frame ----------------------------------------------------------------------------
+ * The port may be idle 4,300 microseconds after the last frame (the shortest tIDLE): then the chain wants 10 microseconds a
+ * device (tREADY) after it is woken.
+ *   n      the devices of the chain
+ *   last   when the last frame ended, on a microsecond clock of 32 bits that runs past its end to 0
+ *   now    what that clock shows now; the gap is now - last modulo 2^32, so a gap of 2^32 or more is not seen
+ * Number:
+ *   RIG_BAD_SIZE   n is not 1 to 16: wait is 0
+ *   RIG_DONE       wait is 10n where the gap is 4,300 or more, and 0 below
+ *
+ *     struct rig_wait wake = rig_wake(16, 4294967000u, 4004u);          (the clock ran over: the gap is 4,300, wait is 160)
+ *     if (wake.wait > 0) { send_wake_pulse(); sleep_us(wake.wait); }
+ */
+struct rig_wait rig_wake(uint32_t n, uint32_t last, uint32_t now);
+
+#ifdef __cplusplus
+}
+#endif
+
+/* ---- The records lie as the library has them ----------------------------------------------------------------------- */
+
+#if defined(__cplusplus) && __cplusplus >= 201103L
+#define RIG_ASSERT(holds, says) static_assert(holds, says)
+#elif !defined(__cplusplus) && defined(__STDC_VERSION__) && __STDC_VERSION__ >= 201112L
+#define RIG_ASSERT(holds, says) _Static_assert(holds, says)
+#endif
+
+#ifdef RIG_ASSERT
+RIG_ASSERT(sizeof(struct rig_written) == 2 * sizeof(size_t), "rig.h: struct rig_written has another size");
+RIG_ASSERT(offsetof(struct rig_written, number) == 0, "rig.h: rig_written.number lies elsewhere");
+RIG_ASSERT(offsetof(struct rig_written, length) == sizeof(size_t), "rig.h: rig_written.length lies elsewhere");
+RIG_ASSERT(sizeof(struct rig_heard) == 4, "rig.h: struct rig_heard has another size");
+RIG_ASSERT(offsetof(struct rig_heard, number) == 0, "rig.h: rig_heard.number lies elsewhere");
+RIG_ASSERT(offsetof(struct rig_heard, word) == 2, "rig.h: rig_heard.word lies elsewhere");
+RIG_ASSERT(sizeof(struct rig_wait) == 8, "rig.h: struct rig_wait has another size");
+RIG_ASSERT(offsetof(struct rig_wait, number) == 0, "rig.h: rig_wait.number lies elsewhere");
+RIG_ASSERT(offsetof(struct rig_wait, wait) == 4, "rig.h: rig_wait.wait lies elsewhere");
+RIG_ASSERT(sizeof(struct rig_readings) == 44, "rig.h: struct rig_readings has another size");
+RIG_ASSERT(offsetof(struct rig_readings, number) == 0, "rig.h: rig_readings.number lies elsewhere");
+RIG_ASSERT(offsetof(struct rig_readings, counts) == 2, "rig.h: rig_readings.counts lies elsewhere");
+RIG_ASSERT(offsetof(struct rig_readings, valid) == 40, "rig.h: rig_readings.valid lies elsewhere");
+RIG_ASSERT(sizeof(struct rig_tally) == 16, "rig.h: struct rig_tally has another size");
+RIG_ASSERT(offsetof(struct rig_tally, replies) == 0, "rig.h: rig_tally.replies lies elsewhere");
+RIG_ASSERT(offsetof(struct rig_tally, read) == 4, "rig.h: rig_tally.read lies elsewhere");
+RIG_ASSERT(offsetof(struct rig_tally, wrong) == 8, "rig.h: rig_tally.wrong lies elsewhere");
+RIG_ASSERT(offsetof(struct rig_tally, silent) == 12, "rig.h: rig_tally.silent lies elsewhere");
+#undef RIG_ASSERT
+#endif
+
+#endif
