@@ -1,13 +1,43 @@
-# make test   every test and every proof, from nothing; the last line is rt's 'N passed, M failed'
-# make fmt    lay out every Rattle, proof and Rust file
-.PHONY: test need second fmt
+# make lib       build/librig.a, the C entries of include/rig.h, from the proved crates
+# make install   header, archive and rig.pc for pkg-config under PREFIX (default /usr/local)
+# make test      every test and every proof, from nothing; the last line is rt's 'N passed, M failed'
+# make fmt       lay out every Rattle, proof and Rust file
+.PHONY: test need second lib install header fmt
 
-test: need second
+PREFIX ?= /usr/local
+VERSION := 1.0.0
+CHECKED := -Wall -Wextra -Wpedantic -Werror -Iinclude
+ARCHIVE := build/librig.a
+SOURCES := crates.txt $(shell find crates -name '*.rt' -o -name '*.antt')
+
+test: need second header
 	@echo '== rt ci: prove every crate, try every must-fail edit, run every program'
 	@rt ci
 
 need:
 	@tools/need
+
+lib: $(ARCHIVE)
+
+$(ARCHIVE): $(SOURCES) | need
+	@echo '== lib: prove what the archive holds, and compile it'
+	@rt staticlib capi
+	@mkdir -p build
+	@cp target/staticlib/libcapi.a $@
+	@echo '== lib: $@ and include/rig.h are ready'
+
+install: $(ARCHIVE)
+	install -d '$(DESTDIR)$(PREFIX)/include' '$(DESTDIR)$(PREFIX)/lib/pkgconfig'
+	install -m 644 include/rig.h '$(DESTDIR)$(PREFIX)/include/rig.h'
+	install -m 644 $(ARCHIVE) '$(DESTDIR)$(PREFIX)/lib/librig.a'
+	sed -e 's|@PREFIX@|$(abspath $(PREFIX))|' -e 's|@VERSION@|$(VERSION)|' tools/rig.pc.in > '$(DESTDIR)$(PREFIX)/lib/pkgconfig/rig.pc'
+
+# The header compiles alone, as C and as C++, and says what the crates and the archive have.
+header: $(ARCHIVE)
+	@echo '== header: rig.h compiles alone with no warning, and has what the crates and the archive have'
+	@for std in c99 c11 c17; do for cc in gcc clang; do $$cc -std=$$std $(CHECKED) -x c -fsyntax-only include/rig.h || exit 1; done; done
+	@for std in c++98 c++11 c++17; do clang++ -std=$$std $(CHECKED) -x c++ -fsyntax-only include/rig.h || exit 1; done
+	@tools/header include/rig.h $(ARCHIVE)
 
 # The second implementation: its own tests, and the vectors' answers as it derives them.
 second: need
