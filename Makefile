@@ -2,7 +2,7 @@
 # make install   header, archive and rig.pc for pkg-config under PREFIX (default /usr/local)
 # make test      every test and every proof, from nothing; the last line is rt's 'N passed, M failed'
 # make fmt       lay out every Rattle, proof and Rust file
-.PHONY: test need second lib install header fmt
+.PHONY: test need second lib install header ctest fmt
 
 PREFIX ?= /usr/local
 VERSION := 1.0.0
@@ -10,7 +10,7 @@ CHECKED := -Wall -Wextra -Wpedantic -Werror -Iinclude
 ARCHIVE := build/librig.a
 SOURCES := crates.txt $(shell find crates -name '*.rt' -o -name '*.antt')
 
-test: need second header
+test: need second header ctest
 	@echo '== rt ci: prove every crate, try every must-fail edit, run every program'
 	@rt ci
 
@@ -38,6 +38,14 @@ header: $(ARCHIVE)
 	@for std in c99 c11 c17; do for cc in gcc clang; do $$cc -std=$$std $(CHECKED) -x c -fsyntax-only include/rig.h || exit 1; done; done
 	@for std in c++98 c++11 c++17; do clang++ -std=$$std $(CHECKED) -x c++ -fsyntax-only include/rig.h || exit 1; done
 	@tools/header include/rig.h $(ARCHIVE)
+
+# The archive called from C, by both compilers; the stack that each entry uses is printed.
+ctest: $(ARCHIVE)
+	@echo '== ctest: every entry called from C, built by gcc -O2 and by clang -O0'
+	@gcc -std=c99 -O2 -Wconversion $(CHECKED) tests/rig_test.c tests/plain.c tests/stack.c $(ARCHIVE) -o build/rig_test
+	@build/rig_test
+	@clang -std=c99 -O0 -Wconversion $(CHECKED) tests/rig_test.c tests/plain.c tests/stack.c $(ARCHIVE) -o build/rig_test_clang
+	@build/rig_test_clang | tail -1
 
 # The second implementation: its own tests, and the vectors' answers as it derives them.
 second: need

@@ -1,0 +1,54 @@
+/* plain.h: what the C tests share: a count of checks, the commands by name, and plain bit-by-bit answers to hold the
+ * entries against, written from the paper and not from the crates. */
+#ifndef PLAIN_H
+#define PLAIN_H
+
+#include "rig.h"
+
+/* ---- checks ---- */
+
+extern unsigned long checks, failures;
+
+/* Counts one check; where it fails, says what, and for which case. */
+void expect(int holds, const char *what, unsigned long a, unsigned long b, int line);
+
+#define EXPECT(holds, what, a, b) expect((holds), (what), (unsigned long)(a), (unsigned long)(b), __LINE__)
+
+/* ---- the commands, each with its kind and group ---- */
+
+enum kind { WRITES, READS, CLEARS };
+
+struct command {
+    uint32_t code;
+    enum kind kind;
+    unsigned group; /* of a clear, the first that it sets */
+    unsigned last;  /* of a clear, the last */
+};
+
+extern const struct command commands[26];
+
+/* The command of a code, or NULL. */
+const struct command *command_of(uint32_t code);
+
+/* ---- plain answers ---- */
+
+uint16_t plain_word(const uint8_t *bytes, size_t length);
+
+/* Lays `length` bytes and their check word at `group`. */
+void plain_group(const uint8_t *bytes, size_t length, uint8_t *group);
+
+size_t plain_data_length(uint32_t n, const struct command *command);
+size_t plain_frame_length(uint32_t n, const struct command *command);
+
+/* The frame of a command on n devices; its length. */
+size_t plain_frame(uint32_t n, const struct command *command, const uint8_t *data, uint8_t *frame);
+
+/* The mark of eight bytes. */
+uint8_t plain_mark(const uint8_t *group);
+
+/* The numbers, by the order of refusals that the paper has. NULL is an unknown command. */
+uint8_t plain_writer_number(uint32_t n, const struct command *command, size_t data, size_t out);
+uint8_t plain_chain_number(uint32_t n, const uint8_t *frame, size_t length, size_t state, size_t reply);
+uint8_t plain_reader_number(uint32_t n, const struct command *command, size_t reply, size_t data, size_t marks);
+
+#endif

@@ -1,0 +1,400 @@
+/* rig_test.c: every entry of librig.a, called from C: the numbers of the paper, each refusal in its order with lengths off
+ * by one both ways, guard bytes around every lent buffer, and the stack that each entry uses. */
+#include "plain.h"
+#include "stack.h"
+
+#include <stdio.h>
+#include <string.h>
+
+enum { GUARD = 64, ROOM = 2048, STACK_LIMIT = 2048 };
+
+/* ---- lent buffers: painted, with room on both sides that must stay as it was painted ---- */
+
+struct lent {
+    uint8_t all[GUARD + ROOM + GUARD];
+    size_t length;
+};
+
+static uint8_t paint_at(size_t i) { return (uint8_t)(i * 37 + 11); }
+
+static uint8_t *lend(struct lent *lent, size_t length) {
+    for (size_t i = 0; i < sizeof lent->all; i++) {
+        lent->all[i] = paint_at(i);
+    }
+    lent->length = length;
+    return lent->all + GUARD;
+}
+
+/* Whether nothing but the first `used` bytes was written. */
+static int kept(const struct lent *lent, size_t used) {
+    for (size_t i = 0; i < sizeof lent->all; i++) {
+        if ((i < GUARD || i >= GUARD + used) && lent->all[i] != paint_at(i)) {
+            return 0;
+        }
+    }
+    return 1;
+}
+
+/* A length and its two neighbours; below 0 it stays 0. */
+static size_t near(size_t length, int step) { return length == 0 && step < 0 ? 0 : length + (size_t)step; }
+
+/* ---- the check word ---- */
+
+static void test_pec(void) {
+    static const struct { uint8_t bytes[6]; size_t length; uint16_t word; } printed[] = {
+        {{0}, 0, 0x0020}, {{0x00}, 1, 0x2000}, {{0x01}, 1, 0xAB32}, {{0x20}, 1, 0x965C}, {{0x00, 0x00}, 2, 0xB65C},
+        {{0x00, 0x01}, 2, 0x3D6E}, {{0x00, 0x02}, 2, 0x2B0A}, {{0x00, 0x04}, 2, 0x07C2}, {{0x07, 0x11}, 2, 0xC9C0},
+        {{0}, 6, 0xC212},
+    };
+    struct lent lent;
+    EXPECT(rig_pec(NULL, 0) == 0x0020, "word of nothing at NULL", 0, 0);
+    for (size_t i = 0; i < sizeof printed / sizeof *printed; i++) {
+        EXPECT(rig_pec(printed[i].bytes, printed[i].length) == printed[i].word, "word of the paper", i, printed[i].word);
+    }
+    for (size_t length = 0; length <= ROOM; length++) {
+        uint8_t *bytes = lend(&lent, length);
+        EXPECT(rig_pec(bytes, length) == plain_word(bytes, length), "word", length, 0);
+        EXPECT(kept(&lent, 0), "bytes are only read", length, 0);
+    }
+}
+
+/* ---- the writer ---- */
+
+static void one_write(uint32_t n, uint32_t code, size_t data_len, size_t out_len) {
+    struct lent data, out;
+    uint8_t frame[RIG_FRAME_BYTES(16)];
+    const struct command *command = command_of(code);
+    uint8_t number = plain_writer_number(n, command, data_len, out_len);
+    uint8_t *from = lend(&data, data_len), *to = lend(&out, out_len);
+    struct rig_written got = rig_write(n, code, from, data_len, to, out_len);
+    size_t length = number == RIG_DONE ? plain_frame(n, command, from, frame) : 0;
+    EXPECT(got.number == number, "writer's number", n, code);
+    EXPECT(got.length == length, "writer's length", n, code);
+    EXPECT(memcmp(to, frame, length) == 0, "writer's frame", n, code);
+    EXPECT(kept(&out, length) && kept(&data, 0), "writer keeps what lies past the frame", n, code);
+}
+
+static void test_write(void) {
+    static const uint8_t zeros[6] = {0}, cfga[12] = {0x00, 0x01, 0x3D, 0x6E, 0, 0, 0, 0, 0, 0, 0xC2, 0x12};
+    uint8_t out[RIG_FRAME_BYTES(16)], sixteen[96] = {0};
+    struct rig_written got = rig_write(1, RIG_WRCFGA, zeros, 6, out, sizeof out);
+    EXPECT(got.number == 0 && got.length == 12 && memcmp(out, cfga, 12) == 0, "write of CFGA, six zeros", 1, 0);
+    EXPECT(rig_write(16, RIG_WRCFGA, sixteen, 96, out, 132).length == 132, "132 bytes for 16 devices", 16, 132);
+    EXPECT(rig_write(16, RIG_WRCFGA, sixteen, 96, out, 131).number == 5, "an output of 131", 16, 131);
+    EXPECT(rig_write(0, 0xFFFF, NULL, 1, NULL, 0).number == 1, "1 comes first", 0, 0);
+    EXPECT(rig_write(1, RIG_RDCVA, NULL, 0, out, 12).number == 0, "a read with no data at NULL", 1, 0);
+    for (uint32_t n = 0; n <= 17; n++) {
+        for (size_t i = 0; i < 26; i++) {
+            for (int step = 0; step < 9; step++) {
+                one_write(n, commands[i].code, near(plain_data_length(n, &commands[i]), step % 3 - 1),
+                          near(plain_frame_length(n, &commands[i]), step / 3 - 1));
+            }
+            one_write(n, commands[i].code, plain_data_length(n, &commands[i]), 0);
+            one_write(n + (1u << 16), commands[i].code, plain_data_length(n, &commands[i]), ROOM);
+        }
+        one_write(n, 0x003, 0, ROOM);
+        one_write(n, 0x003, 7, 0);
+    }
+}
+
+/* Every code of 16 bits, and above: the 26 are known, and no other. */
+static void test_codes(void) {
+    uint8_t out[12], six[6] = {0};
+    for (uint32_t code = 0; code < 1u << 17; code++) {
+        const struct command *command = command_of(code);
+        size_t data = command != NULL ? plain_data_length(1, command) : 0;
+        uint8_t number = rig_write(1, code, six, data, out, sizeof out).number;
+        EXPECT(number == (command != NULL ? RIG_DONE : RIG_UNKNOWN_COMMAND), "known codes", code, number);
+    }
+    for (unsigned g = 0; g < RIG_GROUPS; g++) {
+        unsigned reads = 0, writes = 0;
+        for (size_t i = 0; i < 26; i++) {
+            reads += commands[i].group == g && commands[i].kind == READS;
+            writes += commands[i].group == g && commands[i].kind == WRITES;
+        }
+        EXPECT(reads == 1 && writes == (g < 2 || g > 13), "each group has a read; 0, 1 and 14 to 17 a write", g, writes);
+    }
+}
+
+/* ---- the chain ---- */
+
+/* What a good frame has to leave in a state and a reply: the word. */
+static uint16_t plain_obey(uint32_t n, const struct command *command, const uint8_t *frame, uint8_t *state, uint8_t *reply) {
+    uint16_t word = 0;
+    for (uint32_t k = 0; k < n; k++) {
+        uint8_t *device = state + RIG_STATE_BYTES(k);
+        const uint8_t *sent = frame + 4 + 8 * (n - 1 - k);
+        if (command->kind == READS) {
+            plain_group(device + 6 * command->group, 6, reply + 4 + 8 * k);
+        } else if (command->kind == CLEARS) {
+            memset(device + 6 * command->group, 0xFF, 6 * (command->last - command->group + 1));
+            word |= (uint16_t)(1u << k);
+        } else if (plain_mark(sent) == RIG_MARK_READ) {
+            memcpy(device + 6 * command->group, sent, 6);
+            word |= (uint16_t)(1u << k);
+        }
+    }
+    return word;
+}
+
+static void one_chain(uint32_t n, const uint8_t *frame, size_t length, size_t state_len, size_t reply_len) {
+    struct lent state, reply, state_then, reply_then;
+    uint8_t *lent_state = lend(&state, state_len), *lent_reply = lend(&reply, reply_len);
+    uint8_t *then_state = lend(&state_then, state_len), *then_reply = lend(&reply_then, reply_len);
+    uint8_t number = plain_chain_number(n, frame, length, state_len, reply_len);
+    uint16_t word = 0;
+    if (number == RIG_DONE || number == RIG_FRAME_LENGTH || number == RIG_COMMAND_PEC || number == RIG_UNKNOWN_COMMAND) {
+        memset(then_reply, 0xFF, length);
+    }
+    if (number == RIG_DONE) {
+        word = plain_obey(n, command_of((uint32_t)frame[0] << 8 | frame[1]), frame, then_state, then_reply);
+    }
+    struct rig_heard got = rig_chain(n, frame, length, lent_state, state_len, lent_reply, reply_len);
+    EXPECT(got.number == number, "chain's number", n, number);
+    EXPECT(got.word == word, "chain's word", n, word);
+    EXPECT(memcmp(state.all, state_then.all, sizeof state.all) == 0, "chain's state", n, number);
+    EXPECT(memcmp(reply.all, reply_then.all, sizeof reply.all) == 0, "chain's reply", n, number);
+}
+
+/* Frames of the wrong length, with a wrong command, and with each group wrong alone. */
+static void chain_frames(uint32_t n, const struct command *command, const uint8_t *data) {
+    uint8_t frame[RIG_FRAME_BYTES(17) + 1];
+    size_t length, state = RIG_STATE_BYTES(n);
+    memset(frame, 0xFF, sizeof frame);
+    length = plain_frame(n, command, data, frame);
+    for (int step = 0; step < 9; step++) {
+        one_chain(n, frame, near(length, step / 3 - 1), near(state, step % 3 - 1), length);
+        one_chain(n, frame, near(length, step / 3 - 1), state, near(near(length, step / 3 - 1), step % 3 - 1));
+    }
+    for (size_t cut = 0; cut < 5; cut++) {
+        one_chain(n, frame, cut, state, length);
+    }
+    for (size_t i = 0; i < length; i++) {
+        frame[i] ^= 1;
+        one_chain(n, frame, length, state, length + 1);
+        frame[i] ^= 1;
+    }
+}
+
+static void test_chain(void) {
+    static const uint8_t closing[4] = {0x00, 0x01, 0x3D, 0x6F}, unknown[4] = {0x00, 0x00, 0xB6, 0x5C};
+    uint8_t data[RIG_DATA_BYTES(17)], top[4], code[2] = {0xF8, 0x01};
+    for (size_t i = 0; i < sizeof data; i++) {
+        data[i] = (uint8_t)(i * 101 + 7);
+    }
+    one_chain(1, closing, 4, 108, 4);
+    one_chain(1, unknown, 4, 108, 4);
+    one_chain(1, NULL, 0, 108, 0);
+    plain_group(code, 2, top);
+    one_chain(1, top, 4, 108, 4);
+    for (uint32_t n = 0; n <= 17; n++) {
+        for (size_t i = 0; i < 26; i++) {
+            chain_frames(n, &commands[i], data);
+        }
+    }
+}
+
+/* ---- the reader ---- */
+
+static void one_read(uint32_t n, uint32_t code, const uint8_t *reply, size_t reply_len, size_t data_len, size_t marks_len) {
+    struct lent data, marks;
+    uint8_t *lent_data = lend(&data, data_len), *lent_marks = lend(&marks, marks_len);
+    uint8_t number = plain_reader_number(n, command_of(code), reply_len, data_len, marks_len);
+    static const uint8_t zeros[6] = {0};
+    EXPECT(rig_read(n, code, reply, reply_len, lent_data, data_len, lent_marks, marks_len) == number, "reader's number", n, code);
+    for (uint32_t k = 0; number == RIG_DONE && k < n; k++) {
+        const uint8_t *group = reply + 4 + 8 * k;
+        uint8_t mark = plain_mark(group);
+        EXPECT(lent_marks[k] == mark, "reader's mark", n, k);
+        EXPECT(memcmp(lent_data + 6 * k, mark == RIG_MARK_READ ? group : zeros, 6) == 0, "reader's bytes", n, k);
+    }
+    EXPECT(kept(&data, number == RIG_DONE ? RIG_DATA_BYTES(n) : 0), "reader keeps what lies past the bytes", n, code);
+    EXPECT(kept(&marks, number == RIG_DONE ? n : 0), "reader keeps what lies past the marks", n, code);
+}
+
+/* A reply whose groups are in turn right, wrong in the closing bit, silent, and silent but for one bit. */
+static void make_reply(uint8_t *reply, uint32_t from) {
+    memset(reply, 0xFF, RIG_FRAME_BYTES(17));
+    for (uint32_t k = 0; k < 17; k++) {
+        uint8_t *group = reply + 4 + 8 * k, six[6] = {(uint8_t)k, 0xFF, 0x10, 0xA4, 0x00, (uint8_t)from};
+        if ((k + from) % 4 < 2) {
+            plain_group(six, 6, group);
+            group[7] ^= (uint8_t)((k + from) % 4);
+        } else if ((k + from) % 4 == 3) {
+            group[7] = 0xFE;
+        }
+    }
+}
+
+static void test_read(void) {
+    uint8_t reply[RIG_FRAME_BYTES(17)];
+    for (uint32_t n = 0; n <= 17; n++) {
+        size_t length = RIG_FRAME_BYTES(n), data = RIG_DATA_BYTES(n);
+        for (size_t i = 0; i < 26; i++) {
+            make_reply(reply, (uint32_t)i);
+            for (int step = 0; step < 27; step++) {
+                one_read(n, commands[i].code, reply, near(length, step % 3 - 1) > sizeof reply ? sizeof reply : near(length, step % 3 - 1),
+                         near(data, step / 3 % 3 - 1), near(n, step / 9 - 1));
+            }
+        }
+        one_read(n, 0x003, reply, 3, 0, 0);
+        one_read(n + (1u << 16), RIG_RDCVA, reply, length, data, n);
+        one_read(n, RIG_RDCVA + (1u << 16), reply, length, data, n);
+    }
+}
+
+/* ---- cells ---- */
+
+static void one_cells(const uint8_t *groups, size_t groups_len, const uint8_t *marks, size_t marks_len) {
+    struct rig_readings got = rig_cells(groups, groups_len, marks, marks_len);
+    int good = groups_len == 36 && marks_len == 6;
+    for (size_t i = 0; good && i < 6; i++) {
+        good = marks[i] <= 2;
+    }
+    EXPECT(got.number == (good ? RIG_DONE : RIG_WRONG_LENGTH), "number of the cells", groups_len, marks_len);
+    for (size_t c = 0; c < RIG_CELLS; c++) {
+        int valid = good && marks[c / 3] == RIG_MARK_READ;
+        EXPECT(((got.valid >> c) & 1) == (unsigned)valid, "valid bit", c, got.valid);
+        EXPECT(got.counts[c] == (valid ? groups[2 * c] + 256 * groups[2 * c + 1] : 0), "count", c, got.counts[c]);
+    }
+    EXPECT(got.valid >> RIG_CELLS == 0, "no bit above 17", got.valid, 0);
+}
+
+static void test_cells(void) {
+    struct lent lent;
+    uint8_t *groups = lend(&lent, 37), marks[7] = {0};
+    groups[0] = 0x10;
+    groups[1] = 0xA4;
+    groups[2] = groups[3] = 0xFF;
+    EXPECT(rig_cells(groups, 36, marks, 6).counts[0] == 42000, "10 A4 is 42,000", 0, 0);
+    EXPECT(rig_cells(groups, 36, marks, 6).counts[1] == 65535, "65,535 is a reading", 0, 0);
+    EXPECT(rig_cells(NULL, 0, NULL, 0).number == 3, "nothing at NULL", 0, 0);
+    for (int step = 0; step < 9; step++) {
+        one_cells(groups, near(36, step % 3 - 1), marks, near(6, step / 3 - 1));
+    }
+    for (unsigned sorts = 0; sorts < 4096; sorts++) {
+        for (size_t i = 0; i < 6; i++) {
+            marks[i] = (uint8_t)((sorts >> 2 * i) & 3);
+        }
+        one_cells(groups, 36, marks, 6);
+    }
+}
+
+/* ---- the tally ---- */
+
+static int same(struct rig_tally a, struct rig_tally b) {
+    return a.replies == b.replies && a.read == b.read && a.wrong == b.wrong && a.silent == b.silent;
+}
+
+/* A lent tally between two others that must stay; the marks are `length` of 0, 1, 2 in turn, the last of them `last`. */
+static void one_add(struct rig_tally was, size_t length, uint8_t last, uint8_t number) {
+    const struct rig_tally guard = {1, 2, 3, 4};
+    struct rig_tally three[3] = {guard, was, guard}, then = was;
+    uint8_t marks[17];
+    for (size_t i = 0; i < 17; i++) {
+        marks[i] = i + 1 == length ? last : (uint8_t)(i % 3);
+        if (number == RIG_DONE && i < length) {
+            *(marks[i] == 0 ? &then.read : marks[i] == 1 ? &then.wrong : &then.silent) += 1;
+        }
+    }
+    then.replies += number == RIG_DONE;
+    EXPECT(rig_tally_add(&three[1], marks, length) == number, "number of the tally", length, number);
+    EXPECT(same(three[1], then), "the tally at exit", length, number);
+    EXPECT(same(three[0], guard) && same(three[2], guard), "what stands beside the tally", length, number);
+}
+
+static void test_tally(void) {
+    const uint32_t full = 4294967295u;
+    struct rig_tally zero = {0, 0, 0, 0};
+    EXPECT(rig_tally_add(&zero, NULL, 0) == 1 && zero.replies == 0, "no marks at NULL", 0, 0);
+    for (size_t length = 0; length <= 17; length++) {
+        uint8_t outside = length < 1 || length > 16;
+        for (unsigned last = 0; last < 256; last++) {
+            one_add(zero, length, (uint8_t)last, outside ? RIG_BAD_SIZE : last > 2 ? RIG_WRONG_LENGTH : RIG_DONE);
+        }
+    }
+    for (uint32_t room = 0; room < 4; room++) {
+        struct rig_tally last_reply = {full - room, 0, 0, 0}, read = {0, full - room, 0, 0};
+        struct rig_tally wrong = {0, 0, full - room, 0}, silent = {0, 0, 0, full - room};
+        one_add(last_reply, 6, 2, room < 1 ? RIG_TALLY_FULL : RIG_DONE);
+        one_add(read, 6, 2, room < 2 ? RIG_TALLY_FULL : RIG_DONE);
+        one_add(wrong, 6, 2, room < 2 ? RIG_TALLY_FULL : RIG_DONE);
+        one_add(silent, 6, 2, room < 2 ? RIG_TALLY_FULL : RIG_DONE);
+        one_add(read, 6, 3, RIG_WRONG_LENGTH);
+    }
+}
+
+/* ---- wake ---- */
+
+static void one_wake(uint32_t n, uint32_t last, uint32_t now, uint8_t number, uint32_t wait) {
+    struct rig_wait got = rig_wake(n, last, now);
+    EXPECT(got.number == number && got.wait == wait, "wake", n, now);
+}
+
+static void test_wake(void) {
+    one_wake(16, 4294967000u, 4003, 0, 0);
+    one_wake(16, 4294967000u, 4004, 0, 160);
+    one_wake(0, 0, 5000, 1, 0);
+    one_wake(17, 0, 5000, 1, 0);
+    one_wake(4294967295u, 0, 5000, 1, 0);
+    one_wake(65537, 0, 5000, 1, 0);
+    for (uint32_t n = 1; n <= 16; n++) {
+        for (uint32_t at = 0; at < 32; at++) {
+            uint32_t last = at * 0x08421085u;
+            one_wake(n, last, last, 0, 0);
+            one_wake(n, last, last + 4299, 0, 0);
+            one_wake(n, last, last + 4300, 0, 10 * n);
+            one_wake(n, last, last - 1, 0, 10 * n);
+        }
+    }
+}
+
+/* ---- the stack that each entry uses, at its longest work ---- */
+
+static uint8_t frame_16[RIG_FRAME_BYTES(16)], state_16[RIG_STATE_BYTES(16)], reply_16[RIG_FRAME_BYTES(16)];
+static uint8_t data_16[RIG_DATA_BYTES(16)], marks_16[16], cells_36[36];
+static struct rig_tally tally_16;
+static uint32_t sink;
+
+static void pec_job(void) { sink += rig_pec(state_16, sizeof state_16); }
+static void write_job(void) { sink += rig_write(16, RIG_WRPSB, data_16, 96, frame_16, 132).number; }
+static void chain_write_job(void) { sink += rig_chain(16, frame_16, 132, state_16, 1728, reply_16, 132).word; }
+static void read_frame_job(void) { sink += rig_write(16, RIG_RDPSB, NULL, 0, frame_16, 132).number; }
+static void chain_read_job(void) { sink += rig_chain(16, frame_16, 132, state_16, 1728, reply_16, 132).number; }
+static void read_job(void) { sink += rig_read(16, RIG_RDPSB, reply_16, 132, data_16, 96, marks_16, 16); }
+static void cells_job(void) { sink += rig_cells(cells_36, 36, marks_16, 6).valid; }
+static void tally_job(void) { sink += rig_tally_add(&tally_16, marks_16, 16); }
+static void wake_job(void) { sink += rig_wake(16, 0, 4300).wait; }
+
+static void test_stack(void) {
+    static const struct { const char *name; void (*job)(void); } jobs[] = {
+        {"rig_pec", pec_job}, {"rig_write (write)", write_job}, {"rig_chain (write)", chain_write_job},
+        {"rig_write (read)", read_frame_job}, {"rig_chain (read)", chain_read_job}, {"rig_read", read_job},
+        {"rig_cells", cells_job}, {"rig_tally_add", tally_job}, {"rig_wake", wake_job},
+    };
+    for (size_t i = 0; i < sizeof jobs / sizeof *jobs; i++) {
+        size_t used = stack_of(jobs[i].job);
+        printf("   stack of %-18s %5zu bytes\n", jobs[i].name, used);
+        EXPECT(used < STACK_LIMIT, "stack under 2 KB", i, used);
+    }
+    EXPECT(tally_16.replies == 2 && tally_16.read == 32, "the jobs did their work", tally_16.replies, tally_16.read);
+}
+
+int main(int count, char **words) {
+    static const struct { const char *name; void (*test)(void); } tests[] = {
+        {"rig_pec", test_pec}, {"rig_write", test_write}, {"the 26 commands", test_codes}, {"rig_chain", test_chain},
+        {"rig_read", test_read}, {"rig_cells", test_cells}, {"rig_tally_add", test_tally}, {"rig_wake", test_wake},
+        {"stack", test_stack},
+    };
+    if (count > 1) {
+        fprintf(stderr, "%s: %s: it takes no argument\n", words[0], words[1]);
+        return 2;
+    }
+    for (size_t i = 0; i < sizeof tests / sizeof *tests; i++) {
+        unsigned long before = checks;
+        tests[i].test();
+        printf("   %-18s %8lu checks\n", tests[i].name, checks - before);
+    }
+    printf("rig_test: %lu checks, %lu failed\n", checks, failures);
+    return failures > 0;
+}
