@@ -2,7 +2,7 @@
 # make install   header, archive and rig.pc for pkg-config under PREFIX (default /usr/local)
 # make test      every test and every proof, from nothing; the last line is rt's 'N passed, M failed'
 # make fmt       lay out every Rattle, proof and Rust file
-.PHONY: test need second lib install header ctest fmt
+.PHONY: test need second lib install header ctest entries fmt
 
 PREFIX ?= /usr/local
 VERSION := 1.0.0
@@ -10,7 +10,7 @@ CHECKED := -Wall -Wextra -Wpedantic -Werror -Iinclude
 ARCHIVE := build/librig.a
 SOURCES := crates.txt $(shell find crates -name '*.rt' -o -name '*.antt')
 
-test: need second header ctest
+test: need second header ctest entries
 	@echo '== rt ci: prove every crate, try every must-fail edit, run every program'
 	@rt ci
 
@@ -56,6 +56,11 @@ second: need
 	    cargo run --offline --quiet --manifest-path second/Cargo.toml --bin $$program > second/target/$$program.stdout && \
 	    diff -u crates/$$program/stdout second/target/$$program.stdout || exit 1; \
 	done
+
+# The archive beside the second implementation. RIG_SEED=.. repeats a run of random cases, RIG_CASES=.. says how many.
+entries: $(ARCHIVE)
+	@echo '== entries: every C entry beside the second implementation'
+	@RIG_LIB='$(CURDIR)/$(ARCHIVE)' cargo test --offline --quiet --release --manifest-path second/Cargo.toml --test entries -- --nocapture
 
 fmt:
 	rt fmt

@@ -90,6 +90,24 @@ uint8_t plain_mark(const uint8_t *group) {
     return ((unsigned)group[6] << 8 | group[7]) == plain_word(group, 6) ? RIG_MARK_READ : RIG_MARK_WRONG;
 }
 
+uint16_t plain_obey(uint32_t n, const struct command *command, const uint8_t *frame, uint8_t *state, uint8_t *reply) {
+    uint16_t word = 0;
+    for (uint32_t k = 0; k < n; k++) {
+        uint8_t *device = state + RIG_STATE_BYTES(k);
+        const uint8_t *sent = frame + 4 + 8 * (n - 1 - k);
+        if (command->kind == READS) {
+            plain_group(device + 6 * command->group, 6, reply + 4 + 8 * k);
+        } else if (command->kind == CLEARS) {
+            memset(device + 6 * command->group, 0xFF, 6 * (command->last - command->group + 1));
+            word |= (uint16_t)(1u << k);
+        } else if (plain_mark(sent) == RIG_MARK_READ) {
+            memcpy(device + 6 * command->group, sent, 6);
+            word |= (uint16_t)(1u << k);
+        }
+    }
+    return word;
+}
+
 uint8_t plain_writer_number(uint32_t n, const struct command *command, size_t data, size_t out) {
     if (n < 1 || n > 16) {
         return RIG_BAD_SIZE;

@@ -46,6 +46,9 @@ size_t plain_frame(uint32_t n, const struct command *command, const uint8_t *dat
 /* The mark of eight bytes. */
 uint8_t plain_mark(const uint8_t *group);
 
+/* What a good frame leaves in the state, and in a reply of silence; the chain's word. */
+uint16_t plain_obey(uint32_t n, const struct command *command, const uint8_t *frame, uint8_t *state, uint8_t *reply);
+
 /* The numbers, by the order of refusals that the paper has. NULL is an unknown command. */
 uint8_t plain_writer_number(uint32_t n, const struct command *command, size_t data, size_t out);
 uint8_t plain_chain_number(uint32_t n, const uint8_t *frame, size_t length, size_t state, size_t reply);

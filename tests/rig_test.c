@@ -118,25 +118,6 @@ static void test_codes(void) {
 
 /* ---- the chain ---- */
 
-/* What a good frame has to leave in a state and a reply: the word. */
-static uint16_t plain_obey(uint32_t n, const struct command *command, const uint8_t *frame, uint8_t *state, uint8_t *reply) {
-    uint16_t word = 0;
-    for (uint32_t k = 0; k < n; k++) {
-        uint8_t *device = state + RIG_STATE_BYTES(k);
-        const uint8_t *sent = frame + 4 + 8 * (n - 1 - k);
-        if (command->kind == READS) {
-            plain_group(device + 6 * command->group, 6, reply + 4 + 8 * k);
-        } else if (command->kind == CLEARS) {
-            memset(device + 6 * command->group, 0xFF, 6 * (command->last - command->group + 1));
-            word |= (uint16_t)(1u << k);
-        } else if (plain_mark(sent) == RIG_MARK_READ) {
-            memcpy(device + 6 * command->group, sent, 6);
-            word |= (uint16_t)(1u << k);
-        }
-    }
-    return word;
-}
-
 static void one_chain(uint32_t n, const uint8_t *frame, size_t length, size_t state_len, size_t reply_len) {
     struct lent state, reply, state_then, reply_then;
     uint8_t *lent_state = lend(&state, state_len), *lent_reply = lend(&reply, reply_len);

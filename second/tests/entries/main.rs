@@ -1,0 +1,56 @@
+//! Every C entry of the archive beside the second implementation. Built where RIG_LIB names the archive (`make test` does).
+
+#![cfg(rig)]
+
+mod beside;
+mod damage;
+mod random;
+mod refusals;
+#[path = "../words/mod.rs"]
+mod words;
+
+use second::commands::{Kind, COMMANDS};
+
+#[test]
+fn printed_check_words() {
+    for (bytes, word) in words::WORDS {
+        assert_eq!(beside::pec(bytes), word, "{bytes:02X?}");
+    }
+    beside::ran("printed check words");
+}
+
+/// Bytes from a short rule, so that neighbours and devices differ.
+pub fn pattern(length: usize, from: usize) -> Vec<u8> {
+    (0..length)
+        .map(|at| (at * 89 + from * 31 + 5) as u8)
+        .collect()
+}
+
+/// Every command on every chain: written, heard, answered and read back.
+#[test]
+fn every_command_on_every_chain() {
+    for n in 1..=16u32 {
+        let devices = n as usize;
+        let mut state = pattern(108 * devices, 1);
+        for command in COMMANDS {
+            let code = u32::from(command.code);
+            let data = match command.kind {
+                Kind::Write => pattern(6 * devices, command.first),
+                Kind::Read | Kind::Clear => Vec::new(),
+            };
+            let mut frame = vec![0; 140];
+            let length = beside::write(n, code, &data, &mut frame).length;
+            frame.truncate(length);
+            let mut reply = vec![0; length + 3];
+            let heard = beside::chain(n, &frame, &mut state, &mut reply);
+            assert_eq!(heard.number, 0);
+            reply.truncate(length);
+            if command.kind == Kind::Read {
+                let (mut bytes, mut marks) = (vec![0; 6 * devices + 1], vec![9; devices + 1]);
+                assert_eq!(beside::read(n, code, &reply, &mut bytes, &mut marks), 0);
+                assert!(marks[..devices].iter().all(|mark| *mark == 0));
+            }
+        }
+    }
+    beside::ran("every command on every chain");
+}
