@@ -1,8 +1,9 @@
 # make lib       build/librig.a, the C entries of include/rig.h, from the proved crates
 # make install   header, archive and rig.pc for pkg-config under PREFIX (default /usr/local)
 # make test      every test and every proof, from nothing; the last line is rt's 'N passed, M failed'
+# make fuzz      inputs to the C entries as long as one likes (FUZZ=-runs=N: N of them)
 # make fmt       lay out every Rattle, proof and Rust file
-.PHONY: test need second lib install header ctest entries fmt
+.PHONY: test need second lib install header ctest entries fuzz_some fuzz fmt
 
 PREFIX ?= /usr/local
 VERSION := 1.0.0
@@ -10,7 +11,7 @@ CHECKED := -Wall -Wextra -Wpedantic -Werror -Iinclude
 ARCHIVE := build/librig.a
 SOURCES := crates.txt $(shell find crates -name '*.rt' -o -name '*.antt')
 
-test: need second header ctest entries
+test: need second header ctest entries fuzz_some
 	@echo '== rt ci: prove every crate, try every must-fail edit, run every program'
 	@rt ci
 
@@ -61,6 +62,20 @@ second: need
 entries: $(ARCHIVE)
 	@echo '== entries: every C entry beside the second implementation'
 	@RIG_LIB='$(CURDIR)/$(ARCHIVE)' cargo test --offline --quiet --release --manifest-path second/Cargo.toml --test entries -- --nocapture
+
+# Lent buffers stand flush against inaccessible pages: one byte outside traps.
+build/fuzz: tests/fuzz.c tests/plain.c tests/plain.h include/rig.h $(ARCHIVE)
+	@clang -std=c99 -g -O1 -fsanitize=fuzzer,undefined -fno-sanitize-recover=undefined $(CHECKED) tests/fuzz.c tests/plain.c $(ARCHIVE) -o $@
+
+fuzz_some: build/fuzz
+	@echo '== fuzz: 1,000,000 inputs to the C entries, lent buffers against inaccessible pages'
+	@build/fuzz -runs=1000000 -max_len=2200 -print_final_stats=1 -artifact_prefix=build/ > build/fuzz.log 2>&1 || { tail -40 build/fuzz.log; exit 1; }
+	@sed -n -e 's/^INFO: Seed: /fuzz: seed /p' -e 's/^stat::number_of_executed_units: */fuzz: inputs run, none failed: /p' build/fuzz.log
+
+fuzz: build/fuzz
+	@echo '== fuzz: end it with ctrl-C; an input that fails is left in build/'
+	@mkdir -p build/corpus
+	@build/fuzz -max_len=2200 -artifact_prefix=build/ $(FUZZ) build/corpus
 
 fmt:
 	rt fmt

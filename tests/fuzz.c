@@ -1,0 +1,320 @@
+/* fuzz.c: a libFuzzer target over the C entries. The archive is not instrumented, so each lent buffer stands flush against
+ * an inaccessible page, first at its end, then at its start: one byte read or written outside it traps. Every answer and all
+ * exit contents are held to the plain ones. The fuzzer's bytes choose the entry, sizes, lengths, contents and damage.
+ *
+ *     make fuzz                as long as one likes
+ *     make fuzz FUZZ=-runs=N   N inputs
+ */
+#define _DEFAULT_SOURCE
+#include "plain.h"
+
+#include <stdio.h>
+#include <stdlib.h>
+#include <string.h>
+#include <sys/mman.h>
+#include <unistd.h>
+
+enum { BUFFERS = 3, ROOM = 4096 };
+
+/* ---- lent buffers ---- */
+
+enum side { AT_END, AT_START, SIDES };
+
+static uint8_t *starts[BUFFERS], *ends[BUFFERS];
+
+static void stop(const char *what) {
+    fprintf(stderr, "fuzz: %s\n", what);
+    abort();
+}
+
+static void hold(int holds, const char *what) {
+    if (!holds) {
+        stop(what);
+    }
+}
+
+/* Room for each buffer between two pages that may not be touched. */
+int LLVMFuzzerInitialize(int *count, char ***words);
+int LLVMFuzzerInitialize(int *count, char ***words) {
+    size_t page = (size_t)sysconf(_SC_PAGESIZE), room = (ROOM + page - 1) / page * page;
+    (void)count;
+    (void)words;
+    for (size_t i = 0; i < BUFFERS; i++) {
+        uint8_t *all = mmap(NULL, room + 2 * page, PROT_NONE, MAP_PRIVATE | MAP_ANONYMOUS, -1, 0);
+        if (all == MAP_FAILED || mprotect(all + page, room, PROT_READ | PROT_WRITE) != 0) {
+            stop("there is no memory for the lent buffers");
+        }
+        starts[i] = all + page;
+        ends[i] = all + page + room;
+    }
+    return 0;
+}
+
+/* A copy of bytes in buffer i, flush against a page. */
+static uint8_t *lend(size_t i, enum side side, const void *bytes, size_t length) {
+    uint8_t *at = side == AT_END ? ends[i] - length : starts[i];
+    if (length > 0) {
+        memcpy(at, bytes, length);
+    }
+    return at;
+}
+
+/* Whether a lent buffer holds just these bytes. */
+static int has(const uint8_t *lent, const void *bytes, size_t length) { return length == 0 || memcmp(lent, bytes, length) == 0; }
+
+/* ---- what the fuzzer's bytes say; past their end all are 0 ---- */
+
+struct input {
+    const uint8_t *at;
+    size_t left;
+};
+
+static uint8_t next(struct input *in) {
+    if (in->left == 0) {
+        return 0;
+    }
+    in->left--;
+    return *in->at++;
+}
+
+static uint32_t next_word(struct input *in) {
+    uint32_t word = next(in);
+    for (int i = 0; i < 3; i++) {
+        word = word << 8 | next(in);
+    }
+    return word;
+}
+
+/* Mostly a chain that there is. */
+static uint32_t next_size(struct input *in) {
+    uint8_t byte = next(in);
+    return byte < 240 ? 1u + byte % 16 : byte < 248 ? (byte - 240u) * 17u : next_word(in);
+}
+
+/* Mostly one of the 26. */
+static uint32_t next_code(struct input *in) {
+    uint8_t byte = next(in);
+    return byte < 234 ? commands[byte % 26].code : next_word(in) >> (byte % 4 * 8);
+}
+
+/* Mostly the right length, or one near it. */
+static size_t next_length(struct input *in, size_t right) {
+    uint8_t byte = next(in);
+    size_t less = byte < 200 ? 0 : byte - 200u;
+    return less < 28 ? right - (less < right ? less : right) : right + (less - 27);
+}
+
+static void next_bytes(struct input *in, uint8_t *bytes, size_t length) {
+    for (size_t i = 0; i < length; i++) {
+        bytes[i] = in->left > 0 ? next(in) : (uint8_t)(i * 29 + 3);
+    }
+}
+
+/* Sizes above 17 lend as much as 17 would ask for. */
+static size_t devices(uint32_t n) { return n < 17 ? n : 17; }
+
+/* ---- the entries ---- */
+
+static void fuzz_pec(struct input *in) {
+    static uint8_t bytes[ROOM];
+    size_t length = in->left < ROOM ? in->left : ROOM;
+    next_bytes(in, bytes, length);
+    for (enum side side = AT_END; side < SIDES; side++) {
+        hold(rig_pec(lend(0, side, bytes, length), length) == plain_word(bytes, length), "the check word is another");
+    }
+}
+
+static void fuzz_write(struct input *in) {
+    uint8_t data[256], out[256], then[256];
+    uint32_t n = next_size(in), code = next_code(in);
+    const struct command *command = command_of(code);
+    int writes = command != NULL && command->kind == WRITES;
+    size_t data_len = next_length(in, writes ? RIG_DATA_BYTES(devices(n)) : 0);
+    size_t out_len = next_length(in, RIG_FRAME_BYTES(devices(n)));
+    uint8_t number = plain_writer_number(n, command, data_len, out_len);
+    next_bytes(in, data, data_len);
+    memset(out, next(in), sizeof out);
+    memcpy(then, out, sizeof out);
+    size_t length = number == RIG_DONE ? plain_frame(n, command, data, then) : 0;
+    for (enum side side = AT_END; side < SIDES; side++) {
+        uint8_t *from = lend(0, side, data, data_len), *to = lend(1, side, out, out_len);
+        struct rig_written got = rig_write(n, code, from, data_len, to, out_len);
+        hold(got.number == number && got.length == length, "the writer's answer is another");
+        hold(has(to, then, out_len), "the writer's output is another");
+        hold(has(from, data, data_len), "the writer changed its data");
+    }
+}
+
+/* A frame made right and then damaged, or any bytes; its length. */
+static size_t next_frame(struct input *in, uint32_t n, uint8_t *frame) {
+    uint8_t choice = next(in), data[RIG_DATA_BYTES(16)];
+    if (choice >= 216 || n < 1 || n > 16) {
+        size_t length = next(in) % 160;
+        next_bytes(in, frame, length);
+        return length;
+    }
+    const struct command *command = &commands[choice % 26];
+    size_t length, cut;
+    for (size_t i = 0; i < sizeof data; i++) {
+        data[i] = (uint8_t)(i * 31 + choice);
+    }
+    length = plain_frame(n, command, data, frame);
+    for (uint8_t hits = next(in) % 4; hits > 0; hits--) {
+        size_t at = next(in) % length;
+        frame[at] ^= next(in);
+    }
+    cut = next_length(in, length);
+    if (cut > length) {
+        memset(frame + length, 0xFF, cut - length);
+    }
+    return cut;
+}
+
+static void fuzz_chain(struct input *in) {
+    static uint8_t frame[256], state[ROOM], reply[256], state_then[ROOM], reply_then[256];
+    uint32_t n = next_size(in);
+    size_t frame_len = next_frame(in, n, frame);
+    size_t state_len = next_length(in, RIG_STATE_BYTES(devices(n))), reply_len = next_length(in, frame_len);
+    uint8_t number = plain_chain_number(n, frame, frame_len, state_len, reply_len);
+    uint16_t word = 0;
+    next_bytes(in, state, state_len);
+    memset(reply, next(in), sizeof reply);
+    memcpy(state_then, state, state_len);
+    memcpy(reply_then, reply, sizeof reply);
+    if (number != RIG_BAD_SIZE && number != RIG_WRONG_LENGTH && number != RIG_OUTPUT_SHORT) {
+        memset(reply_then, 0xFF, frame_len);
+    }
+    if (number == RIG_DONE) {
+        word = plain_obey(n, command_of((uint32_t)frame[0] << 8 | frame[1]), frame, state_then, reply_then);
+    }
+    for (enum side side = AT_END; side < SIDES; side++) {
+        uint8_t *from = lend(0, side, frame, frame_len), *held = lend(1, side, state, state_len), *to = lend(2, side, reply, reply_len);
+        struct rig_heard got = rig_chain(n, from, frame_len, held, state_len, to, reply_len);
+        hold(got.number == number && got.word == word, "the chain's answer is another");
+        hold(has(held, state_then, state_len), "the chain's state is another");
+        hold(has(to, reply_then, reply_len), "the chain's reply is another");
+        hold(has(from, frame, frame_len), "the chain changed the frame");
+    }
+}
+
+/* A reply whose groups are each right, silent, or any eight bytes. */
+static void next_reply(struct input *in, uint8_t *reply, size_t length) {
+    for (size_t at = 4; at + 8 <= length; at += 8) {
+        uint8_t choice = next(in), six[6];
+        memset(reply + at, 0xFF, 8);
+        if (choice % 4 < 2) {
+            next_bytes(in, six, 6);
+            plain_group(six, 6, reply + at);
+        }
+        if (choice % 4 > 0) {
+            reply[at + (choice >> 2) % 8] ^= next(in);
+        }
+    }
+}
+
+static void fuzz_read(struct input *in) {
+    uint8_t reply[256] = {0}, data[256], marks[128], data_then[256], marks_then[128];
+    uint32_t n = next_size(in), code = next_code(in);
+    size_t reply_len = next_length(in, RIG_FRAME_BYTES(devices(n)));
+    size_t data_len = next_length(in, RIG_DATA_BYTES(devices(n))), marks_len = next_length(in, devices(n));
+    uint8_t number = plain_reader_number(n, command_of(code), reply_len, data_len, marks_len);
+    next_reply(in, reply, reply_len);
+    memset(data, next(in), sizeof data);
+    memset(marks, next(in), sizeof marks);
+    memcpy(data_then, data, sizeof data);
+    memcpy(marks_then, marks, sizeof marks);
+    for (uint32_t k = 0; number == RIG_DONE && k < n; k++) {
+        marks_then[k] = plain_mark(reply + 4 + 8 * k);
+        memset(data_then + 6 * k, 0, 6);
+        if (marks_then[k] == RIG_MARK_READ) {
+            memcpy(data_then + 6 * k, reply + 4 + 8 * k, 6);
+        }
+    }
+    for (enum side side = AT_END; side < SIDES; side++) {
+        uint8_t *from = lend(0, side, reply, reply_len), *to = lend(1, side, data, data_len), *sorts = lend(2, side, marks, marks_len);
+        hold(rig_read(n, code, from, reply_len, to, data_len, sorts, marks_len) == number, "the reader's number is another");
+        hold(has(to, data_then, data_len), "the reader's bytes are others");
+        hold(has(sorts, marks_then, marks_len), "the reader's marks are others");
+        hold(has(from, reply, reply_len), "the reader changed the reply");
+    }
+}
+
+static int any_above(const uint8_t *marks, size_t length) {
+    for (size_t i = 0; i < length; i++) {
+        if (marks[i] > RIG_MARK_SILENT) {
+            return 1;
+        }
+    }
+    return 0;
+}
+
+/* Marks, mostly lawful ones. */
+static void next_marks(struct input *in, uint8_t *marks, size_t length) {
+    next_bytes(in, marks, length);
+    for (size_t i = 0; i < length; i++) {
+        marks[i] = marks[i] < 250 ? marks[i] % 3 : marks[i];
+    }
+}
+
+static void fuzz_cells(struct input *in) {
+    uint8_t groups[128], marks[128];
+    size_t groups_len = next_length(in, 36), marks_len = next_length(in, 6);
+    next_marks(in, marks, marks_len);
+    next_bytes(in, groups, groups_len);
+    int good = groups_len == 36 && marks_len == 6 && !any_above(marks, marks_len);
+    for (enum side side = AT_END; side < SIDES; side++) {
+        uint8_t *from = lend(0, side, groups, groups_len), *sorts = lend(1, side, marks, marks_len);
+        struct rig_readings got = rig_cells(from, groups_len, sorts, marks_len);
+        hold(got.number == (good ? RIG_DONE : RIG_WRONG_LENGTH) && got.valid >> RIG_CELLS == 0, "the cells' number is another");
+        for (unsigned c = 0; c < RIG_CELLS; c++) {
+            unsigned valid = good && marks[c / 3] == RIG_MARK_READ;
+            hold(((got.valid >> c) & 1) == valid, "a valid bit is another");
+            hold(got.counts[c] == (valid ? groups[2 * c] | groups[2 * c + 1] << 8 : 0), "a count is another");
+        }
+        hold(has(from, groups, groups_len) && has(sorts, marks, marks_len), "the cells changed their input");
+    }
+}
+
+static void fuzz_tally(struct input *in) {
+    uint8_t marks[128];
+    uint64_t sums[4];
+    uint32_t was[4], then[4];
+    size_t length = next_length(in, 1u + next(in) % 16u);
+    for (size_t i = 0; i < 4; i++) {
+        uint8_t byte = next(in);
+        was[i] = byte < 128 ? byte : byte < 192 ? UINT32_MAX - (byte - 128u) : next_word(in);
+        sums[i] = was[i] + (uint64_t)(i == 0);
+    }
+    next_marks(in, marks, length);
+    for (size_t i = 0; i < length; i++) {
+        sums[1 + marks[i] % 3]++;
+    }
+    int past = sums[0] > UINT32_MAX || sums[1] > UINT32_MAX || sums[2] > UINT32_MAX || sums[3] > UINT32_MAX;
+    uint8_t number = length < 1 || length > 16 ? RIG_BAD_SIZE : any_above(marks, length) ? RIG_WRONG_LENGTH : past ? RIG_TALLY_FULL : RIG_DONE;
+    for (size_t i = 0; i < 4; i++) {
+        then[i] = number == RIG_DONE ? (uint32_t)sums[i] : was[i];
+    }
+    for (enum side side = AT_END; side < SIDES; side++) {
+        uint8_t *sorts = lend(0, side, marks, length);
+        void *tally = lend(1, side, was, sizeof was);
+        hold(rig_tally_add(tally, sorts, length) == number, "the tally's number is another");
+        hold(has(tally, then, sizeof then), "the tally at exit is another");
+        hold(has(sorts, marks, length), "the tally changed the marks");
+    }
+}
+
+static void fuzz_wake(struct input *in) {
+    uint32_t n = next_size(in), last = next_word(in), gap = next(in) % 2 ? 4300u + next(in) - 128u : next_word(in);
+    struct rig_wait got = rig_wake(n, last, last + gap);
+    int good = n >= 1 && n <= 16;
+    hold(got.number == (good ? RIG_DONE : RIG_BAD_SIZE), "the wake's number is another");
+    hold(got.wait == (good && gap >= 4300 ? 10 * n : 0), "the wait is another");
+}
+
+int LLVMFuzzerTestOneInput(const uint8_t *bytes, size_t length);
+int LLVMFuzzerTestOneInput(const uint8_t *bytes, size_t length) {
+    static void (*const entries[])(struct input *) = {fuzz_pec, fuzz_write, fuzz_chain, fuzz_read, fuzz_cells, fuzz_tally, fuzz_wake};
+    struct input in = {bytes, length};
+    entries[next(&in) % (sizeof entries / sizeof *entries)](&in);
+    return 0;
+}
