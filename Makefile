@@ -3,7 +3,7 @@
 # make test      every test and every proof, from nothing; the last line is rt's 'N passed, M failed'
 # make fuzz      inputs to the C entries as long as one likes (FUZZ=-runs=N: N of them)
 # make fmt       lay out every Rattle, proof and Rust file
-.PHONY: test need second lib install header ctest entries fuzz_some fuzz fmt
+.PHONY: test need second lib install header manual ctest entries fuzz_some fuzz fmt
 
 PREFIX ?= /usr/local
 VERSION := 1.0.0
@@ -11,7 +11,7 @@ CHECKED := -Wall -Wextra -Wpedantic -Werror -Iinclude
 ARCHIVE := build/librig.a
 SOURCES := crates.txt $(shell find crates -name '*.rt' -o -name '*.antt')
 
-test: need second header ctest entries fuzz_some
+test: need second header manual ctest entries fuzz_some
 	@echo '== rt ci: prove every crate, try every must-fail edit, run every program'
 	@rt ci
 
@@ -40,13 +40,23 @@ header: $(ARCHIVE)
 	@for std in c++98 c++11 c++17; do clang++ -std=$$std $(CHECKED) -x c++ -fsyntax-only include/rig.h || exit 1; done
 	@tools/header include/rig.h $(ARCHIVE)
 
+# The examples of rig.h, built on an installed library as a user would.
+manual: $(ARCHIVE)
+	@echo '== manual: the examples of rig.h run as they stand, on an installed library'
+	@$(MAKE) --no-print-directory --silent install PREFIX=build/prefix DESTDIR=
+	@sed -n 's/^ \*     \([^ ].*\)$$/\1/p' include/rig.h > build/manual.inc
+	@gcc -std=c99 -Wall -Wextra -Werror -Ibuild -Ibuild/prefix/include tests/manual.c -Lbuild/prefix/lib -lrig -o build/manual
+	@build/manual
+
 # The archive called from C, by both compilers; the stack that each entry uses is printed.
 ctest: $(ARCHIVE)
 	@echo '== ctest: every entry called from C, built by gcc -O2 and by clang -O0'
 	@gcc -std=c99 -O2 -Wconversion $(CHECKED) tests/rig_test.c tests/plain.c tests/stack.c $(ARCHIVE) -o build/rig_test
 	@build/rig_test
 	@clang -std=c99 -O0 -Wconversion $(CHECKED) tests/rig_test.c tests/plain.c tests/stack.c $(ARCHIVE) -o build/rig_test_clang
-	@build/rig_test_clang | tail -1
+	@build/rig_test_clang > build/rig_test_clang.log || { cat build/rig_test_clang.log; exit 1; }
+	@tail -1 build/rig_test_clang.log
+	@cppcheck --quiet --std=c99 --enable=warning,portability,performance --error-exitcode=1 --suppress=missingIncludeSystem -Iinclude tests
 
 # The second implementation: its own tests, and the vectors' answers as it derives them.
 second: need

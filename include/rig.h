@@ -147,13 +147,15 @@ struct rig_tally {
     uint32_t silent;
 };
 
+/* Examples follow one another: a later one uses what an earlier one has. */
+
 /* ---- rig_pec: the check word of bytes ------------------------------------------------------------------------------
  * The PEC15 of `bytes` as it is sent, high byte first: the 15-bit remainder times 2, so its lowest bit is 0.
  *   bytes, bytes_len   any bytes; none at all have the word 0x0020
  * Refuses nothing, and changes nothing.
  *
  *     uint8_t command[2] = {0x00, 0x01};
- *     uint16_t word = rig_pec(command, 2);                              (word is 0x3D6E)
+ *     uint16_t word = rig_pec(command, 2);  // 0x3D6E
  */
 uint16_t rig_pec(const uint8_t *bytes, size_t bytes_len);
 
@@ -236,7 +238,7 @@ uint8_t rig_read(uint32_t n, uint32_t code, const uint8_t *reply, size_t reply_l
  * groups and marks are only read.
  *
  *     struct rig_readings cells = rig_cells(groups, 36, marks, 6);
- *     if ((cells.valid >> 17) & 1) volts = cells.counts[17] * 0.0001;   (cell 18)
+ *     if ((cells.valid >> 17) & 1) volts = cells.counts[17] * 0.0001;  // cell 18
  */
 struct rig_readings rig_cells(const uint8_t *groups, size_t groups_len, const uint8_t *marks, size_t marks_len);
 
@@ -253,7 +255,7 @@ struct rig_readings rig_cells(const uint8_t *groups, size_t groups_len, const ui
  * On refusal the tally is untouched. marks are only read.
  *
  *     struct rig_tally tally = {0, 0, 0, 0};
- *     uint8_t number = rig_tally_add(&tally, marks, 16);
+ *     uint8_t added = rig_tally_add(&tally, marks, 16);
  */
 uint8_t rig_tally_add(struct rig_tally *tally, const uint8_t *marks, size_t marks_len);
 
@@ -267,7 +269,7 @@ uint8_t rig_tally_add(struct rig_tally *tally, const uint8_t *marks, size_t mark
  *   RIG_BAD_SIZE   n is not 1 to 16: wait is 0
  *   RIG_DONE       wait is 10n where the gap is 4,300 or more, and 0 below
  *
- *     struct rig_wait wake = rig_wake(16, 4294967000u, 4004u);          (the clock ran over: the gap is 4,300, wait is 160)
+ *     struct rig_wait wake = rig_wake(16, 4294967000u, 4004u);  // the clock ran over: the gap is 4,300, wait is 160
  *     if (wake.wait > 0) { send_wake_pulse(); sleep_us(wake.wait); }
  */
 struct rig_wait rig_wake(uint32_t n, uint32_t last, uint32_t now);

@@ -99,6 +99,11 @@ static void test_write(void) {
 
 /* Every code of 16 bits, and above: the 26 are known, and no other. */
 static void test_codes(void) {
+    static const unsigned groups[RIG_GROUPS] = {
+        RIG_GROUP_CFGA, RIG_GROUP_CFGB, RIG_GROUP_CVA,   RIG_GROUP_CVB,   RIG_GROUP_CVC,  RIG_GROUP_CVD,
+        RIG_GROUP_CVE,  RIG_GROUP_CVF,  RIG_GROUP_AUXA,  RIG_GROUP_AUXB,  RIG_GROUP_AUXC, RIG_GROUP_AUXD,
+        RIG_GROUP_STATA, RIG_GROUP_STATB, RIG_GROUP_COMM, RIG_GROUP_SCTRL, RIG_GROUP_PWM, RIG_GROUP_PSB,
+    };
     uint8_t out[12], six[6] = {0};
     for (uint32_t code = 0; code < 1u << 17; code++) {
         const struct command *command = command_of(code);
@@ -108,6 +113,7 @@ static void test_codes(void) {
     }
     for (unsigned g = 0; g < RIG_GROUPS; g++) {
         unsigned reads = 0, writes = 0;
+        EXPECT(groups[g] == g, "groups in the order of the paper", g, groups[g]);
         for (size_t i = 0; i < 26; i++) {
             reads += commands[i].group == g && commands[i].kind == READS;
             writes += commands[i].group == g && commands[i].kind == WRITES;

@@ -1,0 +1,20 @@
+/* manual.c: the examples of rig.h, compiled and run as they stand there. make takes them out to build/manual.inc. */
+#include "rig.h"
+
+#include <stdio.h>
+
+static unsigned pulses, slept;
+
+static void send_wake_pulse(void) { pulses++; }
+
+static void sleep_us(uint32_t wait) { slept += wait; }
+
+int main(void) {
+    static const uint8_t groups[36] = {0};
+    double volts = 1;
+#include "manual.inc"
+    int good = word == 0x3D6E && out.number == RIG_DONE && heard.number == RIG_DONE && number == RIG_DONE && added == RIG_DONE &&
+               tally.read == 16 && volts == 0 && pulses == 1 && slept == 160;
+    printf("manual: the examples of rig.h %s\n", good ? "do what they say" : "do not do what they say");
+    return good ? 0 : 1;
+}
