@@ -42,11 +42,13 @@ header: $(ARCHIVE)
 
 # The examples of rig.h, built on an installed library as a user would.
 manual: $(ARCHIVE)
-	@echo '== manual: the examples of rig.h run as they stand, on an installed library'
+	@echo '== manual: the examples of rig.h run as they stand, as C and as C++, on an installed library'
 	@$(MAKE) --no-print-directory --silent install PREFIX=build/prefix DESTDIR=
 	@sed -n 's/^ \*     \([^ ].*\)$$/\1/p' include/rig.h > build/manual.inc
 	@gcc -std=c99 -Wall -Wextra -Werror -Ibuild -Ibuild/prefix/include tests/manual.c -Lbuild/prefix/lib -lrig -o build/manual
 	@build/manual
+	@clang -x c++ -std=c++11 -Wall -Wextra -Werror -Ibuild -Ibuild/prefix/include tests/manual.c -x none -Lbuild/prefix/lib -lrig -o build/manual_cpp
+	@build/manual_cpp
 
 # The archive called from C, by both compilers; the stack that each entry uses is printed.
 ctest: $(ARCHIVE)
