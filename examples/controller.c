@@ -1,0 +1,217 @@
+/* A controller over rig.h: it configures a chain of cell monitors, polls the cells of every device over a noisy wire, and shows what
+   each device reported. The chain is simulated by rig_chain and the wire by wire.c; the rest is what a builder's controller does. */
+#include "controller.h"
+
+#include <stdio.h>
+#include <stdlib.h>
+#include <string.h>
+
+enum { POLL_EVERY = 100000, MICROSECONDS_A_BYTE = 8, CELL_GROUPS = 6, MOST_TRIES = 1000, PROGRESS = 100000 };
+
+static const uint32_t read_cells[CELL_GROUPS] = {RIG_RDCVA, RIG_RDCVB, RIG_RDCVC,
+                                                  RIG_RDCVD, RIG_RDCVE, RIG_RDCVF};
+
+/* What a device answered to one read: its bytes and marks, and the reply itself for the old rule. */
+struct answer {
+    uint8_t reply[RIG_FRAME_BYTES(RIG_DEVICES)], data[RIG_DATA_BYTES(RIG_DEVICES)], marks[RIG_DEVICES];
+};
+
+/* Six groups of each device, as rig_cells wants them. */
+struct poll {
+    uint8_t groups[RIG_DEVICES][36], marks[RIG_DEVICES][CELL_GROUPS];
+};
+
+/* A call that is right by its arguments is never refused. */
+static void want_done(const char *what, uint8_t number)
+{
+    if (number != RIG_DONE) {
+        fprintf(stderr, "controller: %s came back with number %u, though its arguments are in order: this is a fault of the rig\n", what,
+                number);
+        exit(1);
+    }
+}
+
+static void wait_for_port(struct controller *c)
+{
+    struct rig_wait wake = rig_wake(c->options.devices, c->last, c->clock);
+
+    want_done("rig_wake", wake.number);
+    c->clock += wake.wait;
+    c->waited += wake.wait;
+    c->waits += wake.wait > 0;
+}
+
+/* The promise, for noise that it allows: a device took part exactly where neither the command nor its own group was hit. */
+static void want_promise(const struct controller *c, uint32_t hit, uint32_t took_part)
+{
+    if (c->options.noise == NOISE_WILD)
+        return;
+    for (uint32_t k = 1; k <= c->options.devices; k++) {
+        uint32_t spared = !(hit & 1) && !(hit >> k & 1);
+        if ((took_part >> (k - 1) & 1) != spared) {
+            fprintf(stderr, "controller: device %u %s: the promise is broken (seed %u)\n", k,
+                    spared ? "was passed over, though neither its group nor the command was hit"
+                           : "took part, though its group or the command was hit",
+                    c->options.seed);
+            exit(1);
+        }
+    }
+}
+
+/* One frame over the wire, at the clock's time. `data` is in device order; a read takes none. */
+static struct trip send_frame(struct controller *c, enum way way, uint32_t code, const uint8_t *data, uint8_t *reply)
+{
+    uint8_t frame[RIG_FRAME_BYTES(RIG_DEVICES)];
+    uint32_t n = c->options.devices;
+    struct rig_written written;
+    struct trip trip;
+
+    wait_for_port(c);
+    written = rig_write(n, code, data, way == WAY_WRITE ? RIG_DATA_BYTES(n) : 0, frame, sizeof frame);
+    want_done("rig_write", written.number);
+    trip = wire_carry(&c->wire, way, frame, c->state, reply);
+    c->clock += MICROSECONDS_A_BYTE * (uint32_t)written.length;
+    c->last = c->clock;
+    c->frames++;
+    return trip;
+}
+
+static void ask(struct controller *c, uint32_t code, struct answer *answer)
+{
+    uint32_t n = c->options.devices, read = 0;
+    struct trip trip = send_frame(c, WAY_READ, code, NULL, answer->reply);
+
+    want_done("rig_read", rig_read(n, code, answer->reply, RIG_FRAME_BYTES(n), answer->data, sizeof answer->data, answer->marks, n));
+    want_done("rig_tally_add", rig_tally_add(&c->tally, answer->marks, n));
+    for (uint32_t k = 0; k < n; k++)
+        if (answer->marks[k] == RIG_MARK_READ)
+            read |= (uint32_t)1 << k;
+    want_promise(c, trip.hit, read);
+}
+
+/* Writes one configuration group of all devices and reads it back, until each device has been seen to hold it. */
+static void configure(struct controller *c, uint32_t write_code, uint32_t read_code, const uint8_t bytes[6])
+{
+    uint32_t n = c->options.devices, all = ((uint32_t)1 << n) - 1, seen = 0;
+    uint8_t data[RIG_DATA_BYTES(RIG_DEVICES)], silence[RIG_FRAME_BYTES(RIG_DEVICES)];
+    struct answer answer;
+
+    for (uint32_t k = 0; k < n; k++)
+        memcpy(data + 6 * k, bytes, 6);
+    for (uint32_t i = 0; i < MOST_TRIES && seen != all; i++) {
+        struct trip trip = send_frame(c, WAY_WRITE, write_code, data, silence);
+        want_promise(c, trip.hit, trip.heard.word);
+        ask(c, read_code, &answer);
+        for (uint32_t k = 0; k < n; k++)
+            if (answer.marks[k] == RIG_MARK_READ && memcmp(answer.data + 6 * k, bytes, 6) == 0)
+                seen |= (uint32_t)1 << k;
+        c->tries++;
+    }
+    if (seen != all) {
+        fprintf(stderr, "controller: command %03X did not reach every device in %d tries: the wire is too noisy\n", write_code, MOST_TRIES);
+        exit(1);
+    }
+}
+
+/* Conversions are not built, so the cells are laid into the registers: each at its own level, with a small stir at each poll. */
+static void charge_cells(struct controller *c)
+{
+    for (uint32_t k = 0; k < c->options.devices; k++)
+        for (uint32_t cell = 0; cell < RIG_CELLS; cell++) {
+            uint32_t level = (k * 18 + cell) * 2477 % (HIGHEST_CELL - LOWEST_CELL - 100);
+            uint32_t count = LOWEST_CELL + level + wire_random(&c->wire, 101);
+            uint8_t *at = c->state + RIG_STATE_BYTES(k) + 6 * RIG_GROUP_CVA + 2 * cell;
+            at[0] = (uint8_t)count;
+            at[1] = (uint8_t)(count >> 8);
+        }
+}
+
+/* A valid cell has to be what the device holds. */
+static void count_cells(struct controller *c, uint32_t k, const struct rig_readings *r)
+{
+    const uint8_t *held = c->state + RIG_STATE_BYTES(k) + 6 * RIG_GROUP_CVA;
+
+    for (uint32_t cell = 0; cell < RIG_CELLS; cell++) {
+        uint16_t count = r->counts[cell];
+        if (!(r->valid >> cell & 1))
+            continue;
+        c->ours[k].cells++;
+        c->ours[k].alarms += count > LIMIT;
+        if (count > c->ours[k].highest)
+            c->ours[k].highest = count;
+        if (count != (held[2 * cell] | held[2 * cell + 1] << 8))
+            c->false_cells++;
+    }
+}
+
+static void count_marks(struct controller *c, uint32_t k, const uint8_t *marks)
+{
+    for (uint32_t g = 0; g < CELL_GROUPS; g++) {
+        c->ours[k].read += marks[g] == RIG_MARK_READ;
+        c->ours[k].wrong += marks[g] == RIG_MARK_WRONG;
+        c->ours[k].silent += marks[g] == RIG_MARK_SILENT;
+    }
+}
+
+/* One poll: CVA to CVF of every device, then the cells of each device that were read. */
+static void poll_cells(struct controller *c)
+{
+    uint32_t n = c->options.devices;
+    struct answer answer;
+    struct poll all;
+
+    for (uint32_t g = 0; g < CELL_GROUPS; g++) {
+        ask(c, read_cells[g], &answer);
+        old_rule_take(n, answer.reply, LIMIT, c->old);
+        for (uint32_t k = 0; k < n; k++) {
+            memcpy(all.groups[k] + 6 * g, answer.data + 6 * k, 6);
+            all.marks[k][g] = answer.marks[k];
+        }
+    }
+    for (uint32_t k = 0; k < n; k++) {
+        struct rig_readings readings = rig_cells(all.groups[k], 36, all.marks[k], CELL_GROUPS);
+        want_done("rig_cells", readings.number);
+        count_marks(c, k, all.marks[k]);
+        count_cells(c, k, &readings);
+    }
+}
+
+static void run(struct controller *c)
+{
+    static const uint8_t cfga[6] = {0xFC, 0, 0, 0, 0, 0}; /* pull-downs of GPIO 1 to 5 off, reference on */
+    static const uint8_t cfgb[6] = {0x0F, 0, 0, 0, 0, 0}; /* pull-downs of GPIO 6 to 9 off */
+    uint32_t due;
+
+    configure(c, RIG_WRCFGA, RIG_RDCFGA, cfga);
+    configure(c, RIG_WRCFGB, RIG_RDCFGB, cfgb);
+    due = c->clock;
+    for (uint32_t i = 1; i <= c->options.polls; i++) {
+        due += POLL_EVERY;
+        c->clock = due;
+        charge_cells(c);
+        poll_cells(c);
+        if (i % PROGRESS == 0)
+            fprintf(stderr, "controller: %u of %u polls\n", i, c->options.polls);
+    }
+}
+
+int main(int count, char **words)
+{
+    static struct controller c; /* all zero */
+    int status;
+
+    c.options.devices = RIG_DEVICES;
+    c.options.polls = 1000;
+    c.options.seed = 1;
+    c.options.noise = NOISE_BURST;
+    status = options_read(count, words, &c.options);
+    if (status != 0)
+        return status == 1 ? 0 : status;
+
+    c.clock = UINT32_MAX - 2000000; /* two seconds before the clock runs past its end */
+    c.last = c.clock - 1000000;
+    wire_start(&c.wire, c.options.noise, c.options.devices, c.options.seed);
+    run(&c);
+    report(&c);
+    return c.false_cells > 0 && c.options.noise != NOISE_WILD;
+}
