@@ -1,0 +1,285 @@
+/* The benchmark: how long each entry of the archive takes beside the same algorithm in plain C (plain.c) and beside the second
+   implementation, in one process, on the same inputs. What counts are the ratios: nanoseconds are this machine's. */
+#define _POSIX_C_SOURCE 199309L
+
+#include "plain.h"
+#include "rig.h"
+
+#include <stdio.h>
+#include <stdlib.h>
+#include <string.h>
+#include <time.h>
+
+enum { RUNS = 15, MAKERS = 3, SETS = 64, LONG_WORD = 65536 };
+
+static const double SHORTEST_RUN = 5e-3; /* seconds */
+
+struct maker {
+    const char *name;
+    uint16_t (*pec)(const uint8_t *, size_t);
+    struct rig_written (*write)(uint32_t, uint32_t, const uint8_t *, size_t, uint8_t *, size_t);
+    struct rig_heard (*chain)(uint32_t, const uint8_t *, size_t, uint8_t *, size_t, uint8_t *, size_t);
+    uint8_t (*read)(uint32_t, uint32_t, const uint8_t *, size_t, uint8_t *, size_t, uint8_t *, size_t);
+    struct rig_readings (*cells)(const uint8_t *, size_t, const uint8_t *, size_t);
+    uint8_t (*tally_add)(struct rig_tally *, const uint8_t *, size_t);
+};
+
+uint16_t second_pec(const uint8_t *, size_t);
+struct rig_written second_write(uint32_t, uint32_t, const uint8_t *, size_t, uint8_t *, size_t);
+struct rig_heard second_chain(uint32_t, const uint8_t *, size_t, uint8_t *, size_t, uint8_t *, size_t);
+uint8_t second_read(uint32_t, uint32_t, const uint8_t *, size_t, uint8_t *, size_t, uint8_t *, size_t);
+struct rig_readings second_cells(const uint8_t *, size_t, const uint8_t *, size_t);
+uint8_t second_tally_add(struct rig_tally *, const uint8_t *, size_t);
+
+static const struct maker makers[MAKERS] = {
+    {"the archive", rig_pec, rig_write, rig_chain, rig_read, rig_cells, rig_tally_add},
+    {"plain C", plain_pec, plain_write, plain_chain, plain_read, plain_cells, plain_tally_add},
+    {"second", second_pec, second_write, second_chain, second_read, second_cells, second_tally_add},
+};
+
+static const uint32_t writes[6] = {RIG_WRCFGA, RIG_WRCFGB, RIG_WRCOMM, RIG_WRSCTRL, RIG_WRPWM, RIG_WRPSB};
+static const uint32_t reads[6] = {RIG_RDCVA, RIG_RDCVB, RIG_RDCVC, RIG_RDCVD, RIG_RDCVE, RIG_RDCVF};
+
+/* What goes in: the same for every maker. The frames and replies are those of the chain size at hand. */
+static struct {
+    uint8_t bytes[LONG_WORD + 8 * SETS];
+    uint8_t marks[SETS][16];
+    uint8_t write_frames[6][132], read_frames[6][132], replies[6][132];
+} in;
+
+/* What comes out, and what a call changes. */
+static struct work {
+    uint8_t state[16 * 108], out[132], reply[132], data[96], marks[16];
+    struct rig_tally tally;
+    struct rig_readings readings;
+    uint32_t sum;
+} work;
+
+typedef void turn_fn(const struct maker *m, uint32_t n, size_t turns);
+
+/* For a check word n is the count of bytes; elsewhere it is the count of devices. */
+static void turn_pec(const struct maker *m, uint32_t n, size_t turns)
+{
+    for (size_t i = 0; i < turns; i++)
+        work.sum += m->pec(in.bytes + 8 * (i % SETS), n);
+}
+
+static void turn_write(const struct maker *m, uint32_t n, size_t turns)
+{
+    for (size_t i = 0; i < turns; i++) {
+        struct rig_written w = m->write(n, writes[i % 6], in.bytes + 96 * (i % SETS), 6 * n, work.out, sizeof work.out);
+        work.sum += w.number + (uint32_t)w.length;
+    }
+}
+
+static void turn_chain_write(const struct maker *m, uint32_t n, size_t turns)
+{
+    for (size_t i = 0; i < turns; i++) {
+        struct rig_heard h = m->chain(n, in.write_frames[i % 6], 4 + 8 * n, work.state, 108 * n, work.reply, sizeof work.reply);
+        work.sum += h.number + h.word;
+    }
+}
+
+static void turn_chain_read(const struct maker *m, uint32_t n, size_t turns)
+{
+    for (size_t i = 0; i < turns; i++) {
+        struct rig_heard h = m->chain(n, in.read_frames[i % 6], 4 + 8 * n, work.state, 108 * n, work.reply, sizeof work.reply);
+        work.sum += h.number + h.word;
+    }
+}
+
+static void turn_read(const struct maker *m, uint32_t n, size_t turns)
+{
+    for (size_t i = 0; i < turns; i++)
+        work.sum += m->read(n, reads[i % 6], in.replies[i % 6], 4 + 8 * n, work.data, sizeof work.data, work.marks,
+                            sizeof work.marks);
+}
+
+static void turn_cells(const struct maker *m, uint32_t n, size_t turns)
+{
+    (void)n;
+    for (size_t i = 0; i < turns; i++) {
+        work.readings = m->cells(in.bytes + 36 * (i % SETS), 36, in.marks[i % SETS], 6);
+        work.sum += work.readings.number;
+    }
+}
+
+static void turn_tally(const struct maker *m, uint32_t n, size_t turns)
+{
+    for (size_t i = 0; i < turns; i++)
+        work.sum += m->tally_add(&work.tally, in.marks[i % SETS], n);
+}
+
+static const struct row {
+    const char *name;
+    turn_fn *turn;
+    uint32_t n;
+    double goal; /* the largest ratio to plain C that we want; 0 where none is set */
+} rows[] = {
+    {"check word of 2 bytes", turn_pec, 2, 1.5},        {"check word of 6 bytes", turn_pec, 6, 1.5},
+    {"check word of 64 KiB", turn_pec, LONG_WORD, 1.1}, {"write, N = 1", turn_write, 1, 0},
+    {"write, N = 16", turn_write, 16, 1.1},             {"chain write, N = 1", turn_chain_write, 1, 0},
+    {"chain write, N = 16", turn_chain_write, 16, 1.1}, {"chain read, N = 1", turn_chain_read, 1, 0},
+    {"chain read, N = 16", turn_chain_read, 16, 1.1},   {"read, N = 1", turn_read, 1, 0},
+    {"read, N = 16", turn_read, 16, 1.1},               {"cells of one device", turn_cells, 1, 1.1},
+    {"tally, N = 1", turn_tally, 1, 0},                 {"tally, N = 16", turn_tally, 16, 1.1},
+};
+
+static uint32_t random_byte(void)
+{
+    static uint32_t x = 20240607;
+
+    x = x * 1664525u + 1013904223u;
+    return x >> 24;
+}
+
+/* Bytes at random; of the marks about one in eight is not 0. */
+static void make_inputs(void)
+{
+    for (size_t i = 0; i < sizeof in.bytes; i++)
+        in.bytes[i] = (uint8_t)random_byte();
+    for (size_t i = 0; i < SETS; i++)
+        for (size_t k = 0; k < 16; k++)
+            in.marks[i][k] = (uint8_t)(random_byte() % 8 ? 0 : 1 + random_byte() % 2);
+}
+
+/* Frames for n devices, a state of random bytes, and the replies to the reads of that state. */
+static void make_frames(uint32_t n)
+{
+    memset(&work, 0, sizeof work);
+    memcpy(work.state, in.bytes, sizeof work.state);
+    for (size_t i = 0; i < 6; i++) {
+        plain_write(n, writes[i], in.bytes + 96 * i, 6 * n, in.write_frames[i], 132);
+        plain_write(n, reads[i], NULL, 0, in.read_frames[i], 132);
+        plain_chain(n, in.read_frames[i], 4 + 8 * n, work.state, 108 * n, in.replies[i], 132);
+    }
+}
+
+static uint32_t devices_of(const struct row *row)
+{
+    return row->n <= 16 ? row->n : 1;
+}
+
+static int same_readings(const struct rig_readings *a, const struct rig_readings *b)
+{
+    return a->number == b->number && a->valid == b->valid && !memcmp(a->counts, b->counts, sizeof a->counts);
+}
+
+static int same_tally(const struct rig_tally *a, const struct rig_tally *b)
+{
+    return a->replies == b->replies && a->read == b->read && a->wrong == b->wrong && a->silent == b->silent;
+}
+
+static int same_work(const struct work *a, const struct work *b)
+{
+    return !memcmp(a->state, b->state, sizeof a->state) && !memcmp(a->out, b->out, sizeof a->out) &&
+           !memcmp(a->reply, b->reply, sizeof a->reply) && !memcmp(a->data, b->data, sizeof a->data) &&
+           !memcmp(a->marks, b->marks, sizeof a->marks) && same_readings(&a->readings, &b->readings) &&
+           same_tally(&a->tally, &b->tally) && a->sum == b->sum;
+}
+
+/* Every maker gives the same on the inputs that are timed, after each count of turns up to SETS. */
+static void assert_same(const struct row *row)
+{
+    static struct work ours;
+
+    for (size_t turns = 1; turns <= SETS; turns++)
+        for (size_t m = 0; m < MAKERS; m++) {
+            make_frames(devices_of(row));
+            row->turn(&makers[m], row->n, turns);
+            if (m == 0) {
+                ours = work;
+            } else if (!same_work(&ours, &work)) {
+                fprintf(stderr, "bench: %s: the archive and %s differ after %zu calls; one of them is wrong, so nothing is timed\n",
+                        row->name, makers[m].name, turns);
+                exit(1);
+            }
+        }
+}
+
+static double cpu_seconds(void)
+{
+    struct timespec t;
+
+    clock_gettime(CLOCK_PROCESS_CPUTIME_ID, &t);
+    return (double)t.tv_sec + 1e-9 * (double)t.tv_nsec;
+}
+
+static double time_run(const struct row *row, const struct maker *m, size_t turns)
+{
+    double start;
+
+    memset(&work.tally, 0, sizeof work.tally);
+    start = cpu_seconds();
+    row->turn(m, row->n, turns);
+    return cpu_seconds() - start;
+}
+
+/* So many turns that the fastest maker takes long enough. */
+static size_t turns_for(const struct row *row)
+{
+    size_t turns = 1;
+
+    for (size_t m = 0; m < MAKERS;)
+        if (time_run(row, &makers[m], turns) < SHORTEST_RUN)
+            turns *= 2;
+        else
+            m++;
+    return turns;
+}
+
+static int ascending(const void *a, const void *b)
+{
+    double x = *(const double *)a, y = *(const double *)b;
+
+    return (x > y) - (x < y);
+}
+
+static double median(double *values, size_t count)
+{
+    qsort(values, count, sizeof *values, ascending);
+    return values[count / 2];
+}
+
+/* A round runs every maker once, each round beginning with the next one; a ratio is taken within its round. */
+static int bench(const struct row *row)
+{
+    double nanoseconds[RUNS], to_plain[RUNS], to_second[RUNS], took[MAKERS];
+
+    assert_same(row);
+    make_frames(devices_of(row));
+    size_t turns = turns_for(row);
+    for (size_t run = 0; run < RUNS; run++) {
+        for (size_t m = 0; m < MAKERS; m++)
+            took[(run + m) % MAKERS] = time_run(row, &makers[(run + m) % MAKERS], turns);
+        nanoseconds[run] = 1e9 * took[0] / (double)turns;
+        to_plain[run] = took[0] / took[1];
+        to_second[run] = took[0] / took[2];
+    }
+    double ratio = median(to_plain, RUNS);
+    printf("%-24s %10.1f %12.2f", row->name, median(nanoseconds, RUNS), ratio);
+    if (row->goal > 0)
+        printf("   %4.1f  %-6s", row->goal, ratio <= row->goal ? "met" : "MISSED");
+    else
+        printf("      -  %-6s", "");
+    printf(" %12.2f\n", median(to_second, RUNS));
+    fflush(stdout);
+    return row->goal > 0 && ratio > row->goal;
+}
+
+int main(void)
+{
+    size_t count = sizeof rows / sizeof *rows;
+    int missed = 0;
+
+    printf("Time of a call of the archive, and its ratio to the same work in plain C (gcc -O2, table of 256) and in second/ (Rust, release,\n"
+           "bit by bit): under 1 the archive is faster. Medians of %d alternating runs in one process, each of at least %.0f ms of processor\n"
+           "time; the same inputs for all, buffers not cleared before a call. That all three give the same is checked first.\n\n",
+           RUNS, 1e3 * SHORTEST_RUN);
+    printf("%-24s %10s %12s   %4s  %-6s %12s\n", "", "ns a call", "to plain C", "goal", "", "to second");
+    make_inputs();
+    for (size_t i = 0; i < count; i++)
+        missed += bench(&rows[i]);
+    printf("\nGoals: 1.5 for a lone word of 2 or 6 bytes, 1.1 for the rest at N = 16; %d missed.\n", missed);
+    return 0;
+}

@@ -1,0 +1,17 @@
+/* The rig's entries in plain C, written the obvious way: what the benchmark holds the archive against.
+   Same arguments, same numbers, same bytes as the entries of rig.h whose names they bear. */
+#ifndef PLAIN_H
+#define PLAIN_H
+
+#include "rig.h"
+
+uint16_t plain_pec(const uint8_t *bytes, size_t bytes_len);
+struct rig_written plain_write(uint32_t n, uint32_t code, const uint8_t *data, size_t data_len, uint8_t *out, size_t out_len);
+struct rig_heard plain_chain(uint32_t n, const uint8_t *frame, size_t frame_len, uint8_t *state, size_t state_len,
+                             uint8_t *reply, size_t reply_len);
+uint8_t plain_read(uint32_t n, uint32_t code, const uint8_t *reply, size_t reply_len, uint8_t *data, size_t data_len,
+                   uint8_t *marks, size_t marks_len);
+struct rig_readings plain_cells(const uint8_t *groups, size_t groups_len, const uint8_t *marks, size_t marks_len);
+uint8_t plain_tally_add(struct rig_tally *tally, const uint8_t *marks, size_t marks_len);
+
+#endif
