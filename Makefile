@@ -92,3 +92,26 @@ fuzz: build/fuzz
 fmt:
 	rt fmt
 	cargo fmt --manifest-path second/Cargo.toml
+	cargo fmt --manifest-path bench/second/Cargo.toml
+
+# Over the archive that make lib writes:
+# make run       a controller in C polls a chain over a noisy wire (make run ARGS='--noise wild'; ARGS=--help lists what there is)
+# make bench     how long the entries take beside plain C and beside second/
+.PHONY: run bench
+C99 := gcc -std=c99 -O2 -Wall -Wextra -Wpedantic -Iinclude
+
+run: build/controller
+	@build/controller $(ARGS)
+
+build/controller: $(wildcard examples/*.c examples/*.h) include/rig.h build/librig.a
+	@$(C99) $(filter %.c,$^) build/librig.a -o $@
+
+bench: build/bench/bench
+	@build/bench/bench
+
+build/bench/bench: $(wildcard bench/*.c bench/*.h) include/rig.h build/librig.a build/bench/release/libsecond_c.a
+	@$(C99) $(filter %.c,$^) build/librig.a build/bench/release/libsecond_c.a -o $@
+
+build/bench/release/libsecond_c.a: $(wildcard bench/second/Cargo.* bench/second/src/*.rs second/Cargo.* second/src/*.rs)
+	@echo '== bench: second/ as a C library'
+	@cargo build --offline --quiet --release --manifest-path bench/second/Cargo.toml --target-dir build/bench
