@@ -96,7 +96,7 @@ fmt:
 
 # Over the archive that make lib writes:
 # make run       a controller in C polls a chain over a noisy wire (make run ARGS='--noise wild'; ARGS=--help lists what there is)
-# make bench     how long the entries take beside plain C and beside second/
+# make bench     how long the entries take beside plain C and beside second/ (make bench ARGS=cells: the rows with that in their name)
 .PHONY: run bench
 C99 := gcc -std=c99 -O2 -Wall -Wextra -Wpedantic -Iinclude
 
@@ -107,7 +107,7 @@ build/controller: $(wildcard examples/*.c examples/*.h) include/rig.h build/libr
 	@$(C99) $(filter %.c,$^) build/librig.a -o $@
 
 bench: build/bench/bench
-	@build/bench/bench
+	@build/bench/bench $(ARGS)
 
 build/bench/bench: $(wildcard bench/*.c bench/*.h) include/rig.h build/librig.a build/bench/release/libsecond_c.a
 	@$(C99) $(filter %.c,$^) build/librig.a build/bench/release/libsecond_c.a -o $@

@@ -267,10 +267,10 @@ static int bench(const struct row *row)
     return row->goal > 0 && ratio > row->goal;
 }
 
-int main(void)
+int main(int words, char **word)
 {
     size_t count = sizeof rows / sizeof *rows;
-    int missed = 0;
+    int missed = 0, timed = 0;
 
     printf("Time of a call of the archive, and its ratio to the same work in plain C (gcc -O2, table of 256) and in second/ (Rust, release,\n"
            "bit by bit): under 1 the archive is faster. Medians of %d alternating runs in one process, each of at least %.0f ms of processor\n"
@@ -279,7 +279,14 @@ int main(void)
     printf("%-24s %10s %12s   %4s  %-6s %12s\n", "", "ns a call", "to plain C", "goal", "", "to second");
     make_inputs();
     for (size_t i = 0; i < count; i++)
-        missed += bench(&rows[i]);
+        if (words < 2 || strstr(rows[i].name, word[1]) != NULL) {
+            missed += bench(&rows[i]);
+            timed++;
+        }
+    if (timed == 0) {
+        fprintf(stderr, "bench: %s: no row has that in its name; with no argument all rows are timed\n", word[1]);
+        return 2;
+    }
     printf("\nGoals: 1.5 for a lone word of 2 or 6 bytes, 1.1 for the rest at N = 16; %d missed.\n", missed);
     return 0;
 }
