@@ -3,7 +3,6 @@ use mathlib.Core.Path.{_∙_}
 use native.Mathlib.Omega.{arith}
 use borrow.Author.Needs.{needs}
 use lib.Pow.{shl-exact}
-use Rattle.lent.specs.Refusal.{pick}
 use Rattle.host.proofs.cells.bit.Statement.{statement}
 use Rattle.host.proofs.cells.bit.Tie as tie
 
@@ -14,12 +13,7 @@ shl-result : tie.Need-shl-result
 shl-result c = search needs
 
 returns : tie.Need-returns
-unfolding pick
-returns c = rw (c .if1 .taken) (shl-exact 1 (c .before .args .cell) 32 (omega arith) (omega arith) ∙ omega arith)
-
-returns-2 : tie.Need-returns-2
-unfolding pick
-returns-2 c = rw (c .if1 .left)
+returns c = shl-exact 1 (c .args .cell) 32 (omega arith) (omega arith) ∙ omega arith
 
 pub bit-spec : {M : Type 1} → statement M
-bit-spec = tie.close (tie.spec cast-result shl-result returns returns-2)
+bit-spec = tie.close (tie.spec cast-result shl-result returns)

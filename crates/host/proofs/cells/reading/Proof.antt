@@ -1,12 +1,13 @@
 -- `host::cells::reading` meets its contract. The loop's invariant: the counts and bits of the cells passed, over eighteen zeros. Assumes nothing.
 use mathlib.Core.Path.{_≡_, refl, sym, _∙_}
+use mathlib.Core.Logic.{⊎-elim}
 use Prim.Native.Nat.{_≤_, _-_}
 use native.Mathlib.Omega.{arith}
 use Rattle.lent.specs.Memory.{over}
 use Rattle.lent.specs.Word.{bitsWhere}
 use Rattle.lent.proofs.Over.{over-none}
 use Rattle.host.specs.Cells.{countsOf, bitsOf}
-use Rattle.host.proofs.Bits.{turn-bits, fits}
+use Rattle.host.proofs.Bits.{turn-set, turn-none, fits}
 use Rattle.host.proofs.Counts.{turn-counts}
 use Rattle.host.proofs.CellsCases.{groups-wrong, marks-wrong, mark-above, read}
 use Rattle.host.proofs.cells.reading.Statement.{statement}
@@ -63,9 +64,9 @@ bit-requires c κs = omega arith
 
 add-valid : tie.Need-add-valid Inv-loop μ-loop
 add-valid c =
-    let l = c .before .before .before .before .loop in
-    let ok = c .before .before .is-valid in
-    omega (arith, fits _ (l .cell) _ _ (ok .result) (ok .ensures) (l .inv .2) (c .bit .ensures) (c .before .before .before .loop-test .taken))
+    let l = c .before .before .before .before .before .loop in
+    let ok = c .before .before .before .is-valid in
+    omega (arith, fits _ (l .cell) _ (ok .result) (ok .ensures) (l .inv .2) _ (c .bit .ensures) (c .before .if4 .taken) (c .before .before .before .before .loop-test .taken))
 
 add-cell : tie.Need-add-cell Inv-loop μ-loop
 add-cell c = omega arith
@@ -79,7 +80,10 @@ loop-again c =
     let ok = c .before .before .is-valid in (
       omega arith,
       turn-counts _ _ (l .cell) _ (ok .result) (ok .ensures) _ _ (c .before .before .before .loop-test .taken) (l .inv .1) (c .before .count .ensures),
-      turn-bits _ (l .cell) _ _ (ok .result) (ok .ensures) (l .inv .2) (c .bit .ensures),
+      ⊎-elim
+          (λ w. w .2 ∙ turn-set _ (l .cell) _ (ok .result) (ok .ensures) (l .inv .2) _ (w .1 .ensures) (w .0 .taken))
+          (λ w. w .1 ∙ turn-none _ (l .cell) _ (ok .result) (ok .ensures) (l .inv .2) (w .0 .left))
+          (c .if4 .came),
     )
 
 returns-4 : tie.Need-returns-4 Inv-loop μ-loop
