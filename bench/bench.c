@@ -272,9 +272,9 @@ int main(int words, char **word)
     size_t count = sizeof rows / sizeof *rows;
     int missed = 0, timed = 0;
 
-    printf("Time of a call of the archive, and its ratio to the same work in plain C (gcc -O2, table of 256) and in second/ (Rust, release,\n"
-           "bit by bit): under 1 the archive is faster. Medians of %d alternating runs in one process, each of at least %.0f ms of processor\n"
-           "time; the same inputs for all, buffers not cleared before a call. That all three give the same is checked first.\n\n",
+    printf("Time of a call of the archive, and its ratio to the same work in plain C (gcc -O2, table of 256) and in second/ (Rust,\n"
+           "release, bit by bit): under 1 the archive is faster. Medians of %d alternating runs in one process, each of at least %.0f ms\n"
+           "of processor time; the same inputs for all, buffers not cleared before a call. First it is checked that all three agree.\n\n",
            RUNS, 1e3 * SHORTEST_RUN);
     printf("%-24s %10s %12s   %4s  %-6s %12s\n", "", "ns a call", "to plain C", "goal", "", "to second");
     make_inputs();
