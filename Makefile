@@ -1,17 +1,26 @@
+# make run       a controller in C polls a chain over a noisy wire (ARGS='--noise wild'; ARGS=--help lists what there is)
+# make test      every test and every proof, from nothing; the last line is rt's 'N passed, M failed'
 # make lib       build/librig.a, the C entries of include/rig.h, from the proved crates
 # make install   header, archive and rig.pc for pkg-config under PREFIX (default /usr/local)
-# make test      every test and every proof, from nothing; the last line is rt's 'N passed, M failed'
+# make bench     how long the entries take beside plain C and beside second/ (ARGS=cells: the rows with that in their name)
 # make fuzz      inputs to the C entries as long as one likes (FUZZ=-runs=N: N of them)
 # make fmt       lay out every Rattle, proof and Rust file
-.PHONY: test need second lib install header manual ctest entries fuzz_some fuzz fmt
+.PHONY: run test lib install bench fuzz fmt need second header manual readme ctest example entries fuzz_some
 
 PREFIX ?= /usr/local
 VERSION := 1.0.0
 CHECKED := -Wall -Wextra -Wpedantic -Werror -Iinclude
 ARCHIVE := build/librig.a
+C99 := gcc -std=c99 -O2 $(CHECKED)
 SOURCES := crates.txt $(shell find crates -name '*.rt' -o -name '*.antt')
 
-test: need second header manual ctest entries fuzz_some
+run: build/controller
+	@build/controller $(ARGS)
+
+build/controller: $(wildcard examples/*.c examples/*.h) include/rig.h $(ARCHIVE)
+	@$(C99) $(filter %.c,$^) $(ARCHIVE) -o $@
+
+test: need second header manual readme ctest example entries fuzz_some
 	@echo '== rt ci: prove every crate, try every must-fail edit, run every program'
 	@rt ci
 
@@ -49,6 +58,23 @@ manual: $(ARCHIVE)
 	@build/manual
 	@clang -x c++ -std=c++11 -Wall -Wextra -Werror -Ibuild -Ibuild/prefix/include tests/manual.c -x none -Lbuild/prefix/lib -lrig -o build/manual_cpp
 	@build/manual_cpp
+
+# The example of README.md prints what README.md says.
+readme: manual
+	@echo '== readme: the example of README.md runs as it stands'
+	@sed -n '/^```c$$/,/^```$$/p' README.md | sed '/^```/d' > build/readme.c
+	@sed -n '/^```text$$/,/^```$$/p' README.md | sed '/^```/d' > build/readme.said
+	@gcc -std=c99 -Wall -Wextra -Wpedantic -Werror -Ibuild/prefix/include build/readme.c -Lbuild/prefix/lib -lrig -o build/readme
+	@build/readme > build/readme.prints
+	@diff -u build/readme.said build/readme.prints
+
+# The controller holds each poll to the promise itself, and says by its status that it was kept; bad arguments have status 2.
+example: build/controller
+	@echo '== example: the controller over noise that the promise allows, over wild noise, and with bad arguments'
+	@build/controller --polls 2000 --seed 7 > build/controller.log 2>&1 || { cat build/controller.log; exit 1; }
+	@sed -n -e '/^Alarms/p' -e '/^Checked/p' build/controller.log
+	@build/controller --polls 50 --noise wild > build/controller.log 2>&1; test $$? -le 1
+	@build/controller --devices 17 2> build/controller.log; test $$? -eq 2
 
 # The archive called from C, by both compilers; the stack that each entry uses is printed.
 ctest: $(ARCHIVE)
@@ -89,29 +115,17 @@ fuzz: build/fuzz
 	@mkdir -p build/corpus
 	@build/fuzz -max_len=2200 -artifact_prefix=build/ $(FUZZ) build/corpus
 
-fmt:
-	rt fmt
-	cargo fmt --manifest-path second/Cargo.toml
-	cargo fmt --manifest-path bench/second/Cargo.toml
-
-# Over the archive that make lib writes:
-# make run       a controller in C polls a chain over a noisy wire (make run ARGS='--noise wild'; ARGS=--help lists what there is)
-# make bench     how long the entries take beside plain C and beside second/ (make bench ARGS=cells: the rows with that in their name)
-.PHONY: run bench
-C99 := gcc -std=c99 -O2 -Wall -Wextra -Wpedantic -Iinclude
-
-run: build/controller
-	@build/controller $(ARGS)
-
-build/controller: $(wildcard examples/*.c examples/*.h) include/rig.h build/librig.a
-	@$(C99) $(filter %.c,$^) build/librig.a -o $@
-
 bench: build/bench/bench
 	@build/bench/bench $(ARGS)
 
-build/bench/bench: $(wildcard bench/*.c bench/*.h) include/rig.h build/librig.a build/bench/release/libsecond_c.a
-	@$(C99) $(filter %.c,$^) build/librig.a build/bench/release/libsecond_c.a -o $@
+build/bench/bench: $(wildcard bench/*.c bench/*.h) include/rig.h $(ARCHIVE) build/bench/release/libsecond_c.a
+	@$(C99) $(filter %.c,$^) $(ARCHIVE) build/bench/release/libsecond_c.a -o $@
 
 build/bench/release/libsecond_c.a: $(wildcard bench/second/Cargo.* bench/second/src/*.rs second/Cargo.* second/src/*.rs)
 	@echo '== bench: second/ as a C library'
 	@cargo build --offline --quiet --release --manifest-path bench/second/Cargo.toml --target-dir build/bench
+
+fmt:
+	rt fmt
+	cargo fmt --manifest-path second/Cargo.toml
+	cargo fmt --manifest-path bench/second/Cargo.toml
