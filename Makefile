@@ -31,8 +31,8 @@ lib: $(ARCHIVE)
 
 $(ARCHIVE): $(SOURCES) | need
 	@echo '== lib: prove what the archive holds, and compile it'
-	@rt staticlib capi
 	@mkdir -p build
+	@bash -o pipefail -c 'rt staticlib capi 2>&1 | tee build/lib.log | grep --line-buffered "^rt:"' || { tail -40 build/lib.log; exit 1; }
 	@cp target/staticlib/libcapi.a $@
 	@echo '== lib: $@ and include/rig.h are ready'
 
