@@ -2,7 +2,7 @@
 use mathlib.Core.Path.{_≡_, refl}
 use mathlib.Core.Bool.{true, false, _||_}
 use mathlib.Core.List.{List, [], _∷_}
-use Prim.Native.Nat.{ℕ, zero, suc, _+_, _<_, _≤_}
+use Prim.Native.Nat.{ℕ, zero, suc, _+_, _-_, _<_, _≤_}
 use native.Mathlib.Numerals.{add-one}
 use native.Mathlib.Omega.{arith}
 use borrow.Author.Tests.{eq-eqb, ne-eqb, ltb-false, le-ltb, lt-ltb}
@@ -61,3 +61,6 @@ sorts (x ∷ xs) h =
     let here = one x (ltb-false 2 x (or-left (ltb 2 x) (anyAbove xs) h)) in
     let there = sorts xs (or-right (ltb 2 x) (anyAbove xs) h) in
     omega arith
+
+pub rest : (marks : List ℕ) → anyAbove marks ≡ false → length marks - countOf 0 marks - countOf 1 marks ≡ countOf 2 marks
+rest marks h = omega (arith, sorts marks h)

@@ -3,7 +3,7 @@ ghost use mathlib.Core.Path.{_≡_};
 ghost use Prim.Native.Nat.{_+_, _≤_};
 ghost use mathlib.Core.Bool.{true, false};
 ghost use lib.ListN.{length};
-ghost use Rattle.host.specs.Marks.{countOf};
+ghost use Rattle.host.specs.Marks.{anyAbove, countOf};
 ghost use Rattle.host.specs.Tally.{past, pastAny, plus, counted, Adds};
 use crate::marks;
 
@@ -37,16 +37,19 @@ fn count(reply: &[u8], sort: u8) -> u32
     n
 }
 
-// A reply's own tally: one reply, and its marks by sort.
+// A reply's own tally: one reply, and its marks by sort. No mark is above 2, so what is neither read nor wrong is silent.
 fn count_all(reply: &[u8]) -> Tally
-    requires { ⌜ length (now reply) ≤ 16 ⌝ }
+    requires { ⌜ (length (now reply) ≤ 16) × (anyAbove (now reply) ≡ false) ⌝ }
     ensures { λ r. ⌜ r ≡ counted (now (reply .entry)) ⌝ }
 {
+    let read = count(reply, marks::READ);
+    let wrong = count(reply, marks::WRONG);
+    let all = reply.len() as u32;
     Tally {
         replies: 1,
-        read: count(reply, marks::READ),
-        wrong: count(reply, marks::WRONG),
-        silent: count(reply, marks::SILENT),
+        read: read,
+        wrong: wrong,
+        silent: all - read - wrong,
     }
 }
 

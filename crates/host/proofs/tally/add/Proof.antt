@@ -20,7 +20,8 @@ returns-2 c =
     refused-3 _ _ (sym (c .before .before .before .outside .ensures) ∙ c .before .before .if1 .left) (sym (c .before .any-above .ensures) ∙ c .if2 .taken)
 
 count-all-requires : tie.Need-count-all-requires
-count-all-requires c κs = at-most _ (sym (c .before .before .before .outside .ensures) ∙ c .before .before .if1 .left)
+count-all-requires c κs =
+    (at-most _ (sym (c .before .before .before .outside .ensures) ∙ c .before .before .if1 .left), sym (c .before .any-above .ensures) ∙ c .if2 .left)
 
 passes-any-requires : tie.Need-passes-any-requires
 passes-any-requires c κs = search needs

@@ -1,6 +1,8 @@
--- `host::tally::count_all`: one count for each sort. Assumes nothing.
+-- `host::tally::count_all`: the groups read, those wrong, and the rest, which are silent as no mark is above 2. Assumes nothing.
+use native.Mathlib.Omega.{arith}
 use borrow.Author.Needs.{needs}
 use Rattle.host.specs.Tally.{counted}
+use Rattle.host.proofs.Sorts.{sorts, rest}
 use Rattle.host.proofs.tally.count_all.Statement.{statement}
 use Rattle.host.proofs.tally.count_all.Tie as tie
 
@@ -10,12 +12,18 @@ count-requires c κs = search needs
 count-requires-2 : tie.Need-count-requires-2
 count-requires-2 c κs = search needs
 
-count-requires-3 : tie.Need-count-requires-3
-count-requires-3 c κs = search needs
+cast-all : tie.Need-cast-all
+cast-all c = search needs
+
+sub-t6 : tie.Need-sub-t6
+sub-t6 c = omega (arith, sorts _ (c .before .before .before .pre .1), c .before .count .ensures)
+
+sub-t7 : tie.Need-sub-t7
+sub-t7 c = omega (arith, sorts _ (c .before .before .before .pre .1), c .before .count .ensures, c .count2 .ensures)
 
 returns : tie.Need-returns
 unfolding counted
-returns c = rw (c .before .before .count .ensures, c .before .count2 .ensures, c .count3 .ensures)
+returns c = rw (c .before .count .ensures, c .count2 .ensures, rest _ (c .before .before .before .pre .1))
 
 pub count-all-spec : {M : Type 1} → statement M
-count-all-spec = tie.close (tie.spec count-requires count-requires-2 count-requires-3 returns)
+count-all-spec = tie.close (tie.spec count-requires count-requires-2 cast-all sub-t6 sub-t7 returns)
