@@ -12,7 +12,7 @@ VERSION := 1.0.0
 CHECKED := -Wall -Wextra -Wpedantic -Werror -Iinclude
 ARCHIVE := build/librig.a
 C99 := gcc -std=c99 -O2 $(CHECKED)
-SOURCES := crates.txt $(shell find crates -name '*.rt' -o -name '*.antt')
+SOURCES := crates.txt $(shell find $(addprefix crates/,lent pec frames chain host capi) -name '*.rt' -o -name '*.antt')
 
 run: build/controller
 	@build/controller $(ARGS)
@@ -36,11 +36,13 @@ $(ARCHIVE): $(SOURCES) | need
 	@cp target/staticlib/libcapi.a $@
 	@echo '== lib: $@ and include/rig.h are ready'
 
-install: $(ARCHIVE)
+install:
+	@test -f $(ARCHIVE) || { echo 'install: there is no $(ARCHIVE): run make lib first' >&2; exit 1; }
 	install -d '$(DESTDIR)$(PREFIX)/include' '$(DESTDIR)$(PREFIX)/lib/pkgconfig'
 	install -m 644 include/rig.h '$(DESTDIR)$(PREFIX)/include/rig.h'
 	install -m 644 $(ARCHIVE) '$(DESTDIR)$(PREFIX)/lib/librig.a'
-	sed -e 's|@PREFIX@|$(abspath $(PREFIX))|' -e 's|@VERSION@|$(VERSION)|' tools/rig.pc.in > '$(DESTDIR)$(PREFIX)/lib/pkgconfig/rig.pc'
+	sed -e 's|@PREFIX@|$(abspath $(PREFIX))|' -e 's|@VERSION@|$(VERSION)|' tools/rig.pc.in > build/rig.pc
+	install -m 644 build/rig.pc '$(DESTDIR)$(PREFIX)/lib/pkgconfig/rig.pc'
 
 # The header compiles alone, as C and as C++, and says what the crates and the archive have.
 header: $(ARCHIVE)

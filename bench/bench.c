@@ -287,6 +287,6 @@ int main(int words, char **word)
         fprintf(stderr, "bench: %s: no row has that in its name; with no argument all rows are timed\n", word[1]);
         return 2;
     }
-    printf("\nGoals: 1.5 for a lone word of 2 or 6 bytes, 1.1 for the rest at N = 16; %d missed.\n", missed);
+    printf("\nGoals: 1.5 for a lone word of 2 or 6 bytes, 1.1 for one of 64 KiB, for cells and for the entries at N = 16; %d missed.\n", missed);
     return 0;
 }

@@ -11,7 +11,7 @@ enum { POLL_EVERY = 100000, MICROSECONDS_A_BYTE = 8, CELL_GROUPS = 6, MOST_TRIES
 static const uint32_t read_cells[CELL_GROUPS] = {RIG_RDCVA, RIG_RDCVB, RIG_RDCVC,
                                                   RIG_RDCVD, RIG_RDCVE, RIG_RDCVF};
 
-/* What a device answered to one read: its bytes and marks, and the reply itself for the old rule. */
+/* What the chain answered to one read: bytes and marks, and the reply itself for the old rule. */
 struct answer {
     uint8_t reply[RIG_FRAME_BYTES(RIG_DEVICES)], data[RIG_DATA_BYTES(RIG_DEVICES)], marks[RIG_DEVICES];
 };
@@ -213,5 +213,9 @@ int main(int count, char **words)
     wire_start(&c.wire, c.options.noise, c.options.devices, c.options.seed);
     run(&c);
     report(&c);
+    if (fflush(stdout) != 0 || ferror(stdout)) {
+        fputs("controller: the table could not be written\n", stderr);
+        return 1;
+    }
     return c.false_cells > 0 && c.options.noise != NOISE_WILD;
 }

@@ -1,4 +1,4 @@
-/* The reader of former years, for comparison: it judges a reply as a whole, by the rule of nine in ten. */
+/* The reader of former years, for comparison: it judges a reply as a whole, by a share of its groups. */
 #include "old_rule.h"
 
 static int is_right(const uint8_t *group)
@@ -28,7 +28,7 @@ void old_rule_take(uint32_t n, const uint8_t *reply, uint16_t limit, struct old_
         right += (uint32_t)is_right(reply + 4 + 8 * k);
     for (uint32_t k = 0; k < n; k++) {
         const uint8_t *group = reply + 4 + 8 * k;
-        if (10 * right >= 9 * n)
+        if (10 * right > 9 * n)
             keep(group, limit, &counts[k]);
         else if (is_right(group))
             counts[k].right_dropped++;

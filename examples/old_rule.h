@@ -1,4 +1,4 @@
-/* The reader of former years, for comparison: it judges a reply as a whole, by the rule of nine in ten. */
+/* The reader of former years, for comparison: it judges a reply as a whole, by a share of its groups. */
 #ifndef OLD_RULE_H
 #define OLD_RULE_H
 
@@ -12,7 +12,8 @@ struct old_counts {
     uint16_t highest;       /* the highest count reported */
 };
 
-/* One reply of n devices to a read of three cells: where at least nine in ten of its groups are right all are kept, else none. */
+/* One reply of n devices to a read of three cells: where more than nine in ten of its groups are
+   right all are kept, else none. */
 void old_rule_take(uint32_t n, const uint8_t *reply, uint16_t limit, struct old_counts *counts);
 
 #endif

@@ -20,8 +20,8 @@ static void help(void)
          "  --seed N      0 to 4294967295: the same seed gives the same run (1)\n"
          "  --help        this text\n"
          "\n"
-         "Status: 0 all went as promised; 1 a reading was not what the device holds, or the chain could not be configured;\n"
-         "2 bad arguments.");
+         "Status: 0 all went as promised (of wild noise nothing is promised); 1 a promise was broken, the chain could not be configured\n"
+         "or the table not be written; 2 bad arguments.");
 }
 
 /* A whole number of decimal digits from `least` to `most`. */
@@ -84,7 +84,7 @@ int options_read(int count, char **words, struct options *options)
             return 1;
         }
         if (!is_option(words[i])) {
-            fprintf(stderr, "controller: %s: there is no such option; --help lists them\n", words[i]);
+            fprintf(stderr, "controller: '%s': there is no such option (a value is a word of its own: --devices 3); --help lists them\n", words[i]);
             return 2;
         }
         if (i + 1 == count) {
@@ -93,7 +93,7 @@ int options_read(int count, char **words, struct options *options)
         }
         wanted = take(words[i], words[i + 1], options);
         if (wanted != NULL) {
-            fprintf(stderr, "controller: %s %s: %s\n", words[i], words[i + 1], wanted);
+            fprintf(stderr, "controller: %s '%s': %s\n", words[i], words[i + 1], wanted);
             return 2;
         }
     }

@@ -20,10 +20,10 @@ static void head(const struct controller *c)
         puts("WILD NOISE IS BEYOND THE PROMISE: of the groups it damages, one in some tens of thousands has a right check word again.");
     printf("Every cell holds %.1f V to %.1f V, and one above %.2f V is an alarm for overvoltage: every alarm below is false.\n\n",
            volts(LOWEST_CELL), volts(HIGHEST_CELL), volts(LIMIT));
-    puts("        | THIS RIG: each device by its own group          | OLD RULE: 9 in 10 groups right, and all are kept");
-    puts("        |           groups         cells                  |  groups            right");
-    puts(" device |    read   wrong  silent  valid    max V  alarms |    kept   wrong  dropped    max V  alarms");
-    puts(" -------+-------------------------------------------------+-------------------------------------------------");
+    puts("        | THIS RIG: each device by its own group            | OLD RULE: above 9 in 10 groups right, all are kept");
+    puts("        |           groups           cells                  |  groups            right");
+    puts(" device |    read   wrong  silent    valid    max V  alarms |    kept   wrong  dropped    max V  alarms");
+    puts(" -------+---------------------------------------------------+-------------------------------------------------");
 }
 
 /* As long as the alarms are many, so that the eye finds the far end. */
@@ -40,7 +40,7 @@ static void bar(uint32_t alarms, uint32_t most)
 
 static void row(uint32_t device, const struct counts *ours, const struct old_counts *old, uint32_t most)
 {
-    printf(" %6u | %7u %7u %7u %6u   %6.4f %7u | %7u %7u %8u   %6.4f %7u", device, ours->read, ours->wrong, ours->silent, ours->cells,
+    printf(" %6u | %7u %7u %7u %8u   %6.4f %7u | %7u %7u %8u   %6.4f %7u", device, ours->read, ours->wrong, ours->silent, ours->cells,
            volts(ours->highest), ours->alarms, old->kept, old->wrong_kept, old->right_dropped, volts(old->highest), old->alarms);
     bar(old->alarms, most);
 }
@@ -87,8 +87,8 @@ void report(const struct controller *c)
     sums(c, &ours, &old);
     printf("\nAlarms: %u by this rig; %u by the old rule, which also dropped %u right groups.\n", ours.alarms, old.alarms,
            old.right_dropped);
-    if (c->options.devices < 10)
-        puts("In a chain of under ten devices nine in ten are all of them, so that the old rule keeps no wrong group there.");
+    if (c->options.devices <= 10)
+        puts("In a chain of up to ten devices more than nine in ten is all of them, so that the old rule keeps no wrong group there.");
     printf("Link tally: %u replies (configuration included), %u groups read, %u wrong, %u silent.\n", c->tally.replies, c->tally.read,
            c->tally.wrong, c->tally.silent);
     printf("Wake: %u of %u frames waited for the port, %llu us in all. Configured in %u rounds of write and read back.\n", c->waits,

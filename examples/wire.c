@@ -1,7 +1,8 @@
 /* A simulated wire between the controller and a chain, with noise that grows towards the far end. */
 #include "wire.h"
 
-/* Of a million groups of the last device this many are hit; of those of device k of N, (k / N)^8 times as many. */
+/* On a disturbed way, of a million groups of the last device FAR_END are hit, of those of device k of N (k / N)^8 times as many, and
+   of a million command groups COMMAND. */
 enum { MILLION = 1000000, FAR_END = 250000, COMMAND = 20000 };
 
 void wire_start(struct wire *wire, enum noise noise, uint32_t devices, uint32_t seed)

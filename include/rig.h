@@ -7,7 +7,8 @@
  *
  * WORDS OF THE TRADE
  *   n        the devices of the chain, 1 to 16; device 1 is next to the controller
- *   frame    what goes out while chip select is low: a command group, then for a read or write n data groups
+ *   frame    what goes out while chip select is low: a command group, then for a write n data groups, for a read 8n clock
+ *            bytes 0xFF
  *   group    six bytes and their check word, two bytes; a command group is two bytes and their check word
  *   reply    what comes in meanwhile, byte for byte as long as the frame
  *   number   what a call came to: 0 is done, any other is a refusal (RIG_DONE and on)
@@ -51,9 +52,10 @@ extern "C" {
 
 /* ---- Marks: what became of one device's group in a reply ---------------------------------------------------------- */
 
-#define RIG_MARK_READ 0   /* its check word is right: the six bytes are what the device sent */
+#define RIG_MARK_READ 0   /* its check word is right. Under noise within 15 neighbouring bits of the group, and on one way
+                           * of the frame, the six bytes are then the device's */
 #define RIG_MARK_WRONG 1  /* its check word is wrong */
-#define RIG_MARK_SILENT 2 /* eight bytes 0xFF: no device drove the line */
+#define RIG_MARK_SILENT 2 /* eight bytes 0xFF, as on a line that no device drives */
 
 /* ---- Sizes ------------------------------------------------------------------------------------------------------- */
 
@@ -229,7 +231,8 @@ uint8_t rig_read(uint32_t n, uint32_t code, const uint8_t *reply, size_t reply_l
 
 /* ---- rig_cells: the cells of one device -------------------------------------------------------------------------------
  * Eighteen counts of 100 microvolts from the six groups CVA to CVF of one device, three cells a group, low byte first. A
- * cell is valid where its group's mark is RIG_MARK_READ. All counts 0 to 65,535 are readings.
+ * cell is valid where its group's mark is RIG_MARK_READ. All counts 0 to 65,535 are readings: a cleared group reads as three
+ * valid cells of 65,535.
  *   groups, groups_len   36 bytes: CVA, CVB, CVC, CVD, CVE, CVF
  *   marks, marks_len     6 marks, one for each of them
  * Number:
@@ -237,7 +240,8 @@ uint8_t rig_read(uint32_t n, uint32_t code, const uint8_t *reply, size_t reply_l
  *   RIG_DONE           counts[c - 1] and bit c - 1 of valid for cell c; a cell that is not valid has count 0, its bit clear
  * groups and marks are only read.
  *
- *     struct rig_readings cells = rig_cells(groups, 36, marks, 6);
+ *     uint8_t groups[36] = {0}, group_marks[6] = {0};  // of one device: CVA to CVF, each from a rig_read of its own
+ *     struct rig_readings cells = rig_cells(groups, 36, group_marks, 6);
  *     if ((cells.valid >> 17) & 1) volts = cells.counts[17] * 0.0001;  // cell 18
  */
 struct rig_readings rig_cells(const uint8_t *groups, size_t groups_len, const uint8_t *marks, size_t marks_len);
@@ -261,9 +265,11 @@ uint8_t rig_tally_add(struct rig_tally *tally, const uint8_t *marks, size_t mark
 
 /* ---- rig_wake: how long to wait before a frame ----------------------------------------------------------------------------
  * The port may be idle 4,300 microseconds after the last frame (the shortest tIDLE): then the chain wants 10 microseconds a
- * device (tREADY) after it is woken.
+ * device (tREADY) after it is woken. The wait is a time and wakes nobody: the controller sends the wake pulses. Sleep is not
+ * built: from 1.8 s without a valid command a device may sleep, and then wants up to 400 microseconds, which is not covered.
  *   n      the devices of the chain
- *   last   when the last frame ended, on a microsecond clock of 32 bits that runs past its end to 0
+ *   last   when the last frame ended, on a microsecond clock of 32 bits that runs past its end to 0; before the first frame
+ *          now - 4300
  *   now    what that clock shows now; the gap is now - last modulo 2^32, so a gap of 2^32 or more is not seen
  * Number:
  *   RIG_BAD_SIZE   n is not 1 to 16: wait is 0

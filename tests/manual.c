@@ -10,7 +10,6 @@ static void send_wake_pulse(void) { pulses++; }
 static void sleep_us(uint32_t wait) { slept += wait; }
 
 int main(void) {
-    static const uint8_t groups[36] = {0};
     double volts = 1;
 #include "manual.inc"
     int good = word == 0x3D6E && out.number == RIG_DONE && heard.number == RIG_DONE && number == RIG_DONE && added == RIG_DONE &&

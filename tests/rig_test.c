@@ -81,7 +81,7 @@ static void test_write(void) {
     EXPECT(got.number == 0 && got.length == 12 && memcmp(out, cfga, 12) == 0, "write of CFGA, six zeros", 1, 0);
     EXPECT(rig_write(16, RIG_WRCFGA, sixteen, 96, out, 132).length == 132, "132 bytes for 16 devices", 16, 132);
     EXPECT(rig_write(16, RIG_WRCFGA, sixteen, 96, out, 131).number == 5, "an output of 131", 16, 131);
-    EXPECT(rig_write(0, 0xFFFF, NULL, 1, NULL, 0).number == 1, "1 comes first", 0, 0);
+    EXPECT(rig_write(0, 0xFFFF, sixteen, 1, NULL, 0).number == 1, "1 comes first", 0, 0);
     EXPECT(rig_write(1, RIG_RDCVA, NULL, 0, out, 12).number == 0, "a read with no data at NULL", 1, 0);
     for (uint32_t n = 0; n <= 17; n++) {
         for (size_t i = 0; i < 26; i++) {

@@ -106,7 +106,7 @@ fn long_case(n: u32, command: &[u8; 4], frame: &mut [u8], registers: usize, room
     case(n, frame, registers, room);
 }
 
-fn good_frames() {
+fn writes() {
     case(
         1,
         b"\x00\x01\x3D\x6E\x00\x00\x00\x00\x00\x00\xC2\x12",
@@ -149,6 +149,9 @@ fn good_frames() {
         216,
         20,
     );
+}
+
+fn reads_and_clears() {
     case(
         1,
         b"\x00\x04\x07\xC2\xFF\xFF\xFF\xFF\xFF\xFF\xFF\xFF",
@@ -205,6 +208,7 @@ fn refusals() {
 
 pub fn show() {
     say::text(b"# chain\n");
-    good_frames();
+    writes();
+    reads_and_clears();
     refusals();
 }

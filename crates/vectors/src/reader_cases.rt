@@ -30,8 +30,7 @@ fn case(n: u32, code: u32, reply: &[u8], room: usize, places: usize)
     run(n, code, reply, &mut bytes[0..room], &mut marks[0..places]);
 }
 
-pub fn show() {
-    say::text(b"# reader\n");
+fn replies() {
     case(
         1,
         0x004,
@@ -67,6 +66,9 @@ pub fn show() {
         18,
         3,
     );
+}
+
+fn refusals() {
     case(0, 0x004, b"", 0, 0);
     case(17, 0x004, b"", 0, 0);
     case(1, 0x003, b"", 0, 0);
@@ -100,6 +102,9 @@ pub fn show() {
         6,
         0,
     );
+}
+
+fn silence() {
     case(
         1,
         0x004,
@@ -107,4 +112,11 @@ pub fn show() {
         6,
         1,
     );
+}
+
+pub fn show() {
+    say::text(b"# reader\n");
+    replies();
+    refusals();
+    silence();
 }
