@@ -1,5 +1,5 @@
 -- THE DEMANDS, met by our rig: demand 3 by its frames one after the other, demand 2 as the quiet case of it. Assumes nothing.
-use mathlib.Core.Path.{_≡_, sym, ap, ap₂, _∙_}
+use mathlib.Core.Path.{_≡_, refl, sym, ap, ap₂, _∙_}
 use mathlib.Core.Bool.{Bool, true, false, not, _||_}
 use mathlib.Core.List.{List, [], _∷_}
 use Prim.Native.Nat.{ℕ, _+_, _*_, _-_, _^_, _≤_, _<_}
@@ -8,6 +8,7 @@ use borrow.Author.Tests.{eqb-true}
 use lib.ListN.{length, getD, replicate, length-replicate, getD-replicate}
 use lib.Seq.{ext-getD}
 use Rattle.lent.specs.Bytes.{Bytes}
+use Rattle.lent.specs.Refusal.{pick}
 use Rattle.lent.specs.Memory.{over}
 use Rattle.lent.proofs.BitsWhere.{bits-all}
 use Rattle.lent.proofs.Over.{getD-over}
@@ -81,10 +82,16 @@ module _ (n : ℕ) (a : 1 ≤ n) (b : n ≤ 16) (state : List ℕ) (are : Bytes 
       (λ k h. six-held n (group s) (step ours n s state .registers) g18 (O .size) n k (omega arith) h
       ∙ O .write w .own k h ∙ pick-false (missed n s k) (stored k (group s) state) (six k (s .bytes)) (quiet-missed n s k (quiet .0)))
 
-  sets : kind s ≡ 3 → (k h : ℕ) → k < n → h < 18 → sweeps (s .code) h ≡ true → stored k h (step ours n s state .registers) ≡ replicate 6 255
-  sets c k h lk lh e =
+  turned : (b : Bool) (x y : List ℕ) → pick (not b) x y ≡ pick b y x
+  unfolding pick
+  turned true x y = refl
+  turned false x y = refl
+
+  sets : kind s ≡ 3 → (k h : ℕ) → k < n → h < 18 → stored k h (step ours n s state .registers) ≡ pick (sweeps (s .code) h) (replicate 6 255) (stored k h state)
+  sets c k h lk lh =
       O .clear c .all k h lk lh
-      ∙ pick-false (lost s || not (sweeps (s .code) h)) (stored k h state) (replicate 6 255) (ap₂ (λ (x y : Bool). x || not y) good e)
+      ∙ ap (λ (x : Bool). pick (x || not (sweeps (s .code) h)) (stored k h state) (replicate 6 255)) good
+      ∙ turned (sweeps (s .code) h) (stored k h state) (replicate 6 255)
 
   module _ (q : kind s ≡ 2) where
     abbrev back : List ℕ
@@ -125,9 +132,11 @@ module _ (n : ℕ) (a : 1 ≤ n) (b : n ≤ 16) (state : List ℕ) (are : Bytes 
   undisturbed = record {
     made = O .made;
     number = O .number ∙ pick-false (lost s) 4 0 good;
-    write = λ w. (word-full w, stores w);
-    clear = λ c. (O .clear c .word ∙ pick-false (lost s) 0 (2 ^ n - 1) good, sets c);
-    read = λ q. (gives q, marks q);
+    size = O .size;
+    write = λ w. (stores w, O .write w .others, word-full w);
+    clear = λ c. (sets c, O .clear c .word ∙ pick-false (lost s) 0 (2 ^ n - 1) good);
+    read = λ q. (gives q, marks q, O .read q .kept, O .read q .word, O .read q .asked);
+    no-read = O .no-read;
   }
 
 pub demand2 : Demand2 ours
@@ -137,7 +146,7 @@ demand2 n a b state are whole = (
       let Ow = obeys n a b w state Fw are whole in
       let uw = undisturbed n a b state are whole w Fw qw in
       let ur = undisturbed n a b (after ours n w state) (Ow .are-bytes) (Ow .size) r Fr qr in
-      (ur .read kr .0 ∙ ap (λ (x : List ℕ). over x (r .read)) (ap (λ (x : ℕ). held n x (after ours n w state)) (sym g) ∙ uw .write kw .1), ur .read kr .1),
+      (ur .read kr .0 ∙ ap (λ (x : List ℕ). over x (r .read)) (ap (λ (x : ℕ). held n x (after ours n w state)) (sym g) ∙ uw .write kw .0), ur .read kr .1),
 )
 
 -- WHAT OUR WRITER ACCEPTS is just such a frame: a command of the table, with its data and room, for 1 to 16 devices. (That it makes one is Obeys.made.)

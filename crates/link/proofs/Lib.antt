@@ -11,3 +11,4 @@ pub mod CarryLaws
 pub mod FairFrames
 pub mod WrongHosts
 pub mod WrongChains
+pub mod WrongQuiet

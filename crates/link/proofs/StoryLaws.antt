@@ -7,6 +7,7 @@ use Prim.Native.Nat.{ℕ, _≤_, _<_}
 use borrow.Author.Tests.{eqb-true, eqb-false}
 use lib.Dec.{eqb}
 use lib.ListN.{length, getD, replicate}
+use native.Mathlib.Omega.{arith}
 use Rattle.lent.specs.Bytes.{Bytes}
 use Rattle.lent.specs.Refusal.{pick}
 use Rattle.lent.proofs.BitsWhere.{bits-ext}
@@ -119,6 +120,16 @@ module _ (R R′ : Rig) (n : ℕ) (s : Sending) (before : List ℕ) (r r′ : Se
 
   pub same-numbers : (r .made ≡ r′ .made) × (r .number ≡ r′ .number)
   same-numbers = (O .made ∙ sym (O′ .made), O .number ∙ sym (O′ .number))
+
+  pub same-asked : r .asked ≡ r′ .asked
+  same-asked = ⊎-elim (λ w. other (λ q. omega arith)) (⊎-elim (λ q. O .read q .asked ∙ sym (O′ .read q .asked)) (λ c. other (λ q. omega arith))) (O .kinds)
+    where
+      other : (kind s ≡ 2 → ⊥) → r .asked ≡ r′ .asked
+      other x = O .no-read x .0 ∙ sym (O′ .no-read x .0)
+
+  -- after a write or clear all that was lent to the reader is as it was
+  pub same-unread : (kind s ≡ 2 → ⊥) → (r .bytes ≡ r′ .bytes) × (r .marks ≡ r′ .marks)
+  same-unread x = (O .no-read x .1 ∙ sym (O′ .no-read x .1), O .no-read x .2 ∙ sym (O′ .no-read x .2))
 
   pub same-marks : kind s ≡ 2 → (k : ℕ) → k < n → eqb (getD (r .marks) k 0) 0 ≡ eqb (getD (r′ .marks) k 0) 0
   same-marks q k h = O .read q .mark k h ∙ sym (O′ .read q .mark k h)

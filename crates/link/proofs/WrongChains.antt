@@ -47,7 +47,7 @@ withRegisters f = record {
 }
 
 -- IT STORES NOTHING, and claims what ours claims
-abbrev forgetting : Rig
+abbrev pub forgetting : Rig
 forgetting = withRegisters (λ n frame state reply. state)
 
 pub forgetting-fails : Demand3 forgetting → ⊥
@@ -57,10 +57,10 @@ forgetting-fails d =
     omega arith
 
 -- IT SERVES DEVICE 1, and only claims the rest in its word
-abbrev claiming : Rig
+abbrev pub claiming : Rig
 claiming = withRegisters (λ n frame state reply. take 108 (ours .chain n frame state reply .registers) ++ drop 108 state)
 
-claims : (served : List ℕ) → length (take 108 served ++ drop 108 (replicate 216 7)) ≡ 216
+pub claims : (served : List ℕ) → length (take 108 served ++ drop 108 (replicate 216 7)) ≡ 216
     → stored 1 0 (take 108 served ++ drop 108 (replicate 216 7)) ≡ replicate 6 5 → ⊥
 unfolding stored spot
 claims served l e =

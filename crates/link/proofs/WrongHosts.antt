@@ -59,7 +59,7 @@ unfolding step hands unread lost hit eight over get kindOf rows found frameLengt
 accusing-fails d = clash (sym (one accusing d 1 (omega arith) (omega arith) get get-fair .read kind-get .mark 0 (omega arith)))
 
 -- it gives zeros and mark 0 always
-abbrev blank : Rig
+abbrev pub blank : Rig
 blank = record {
   writer = ours .writer;
   chain = ours .chain;

@@ -1,11 +1,12 @@
 -- Demand 3, over any run of frames; and demand 2, the quiet case with everything written out. Assumes nothing.
 use Prim.Native.Nat.{ℕ, zero, suc, _-_, _^_, _<_, _≤_}
 use mathlib.Core.Path.{_≡_}
-use mathlib.Core.Bool.{true, false}
+use mathlib.Core.Bool.{false}
 use mathlib.Core.List.{List, [], _∷_, _++_}
 use lib.ListN.{length, replicate}
 use Rattle.lent.specs.Bytes.{Bytes}
 use Rattle.lent.specs.Memory.{over}
+use Rattle.lent.specs.Refusal.{pick}
 use Rattle.pec.specs.Noise.{hit}
 use Rattle.chain.specs.State.{stateLength, stored}
 use Rattle.link.specs.Rig.{Rig}
@@ -47,10 +48,25 @@ held (suc k) g state = held k g state ++ stored k g state
 pub record Undisturbed (n : ℕ) (s : Sending) (before : List ℕ) (r : Seen) : Type 0 where
   pub made : r .made ≡ 0
   pub number : r .number ≡ 0
-  pub write : kind s ≡ 1 → (r .word ≡ 2 ^ n - 1) × (held n (group s) (r .registers) ≡ s .bytes)
+  pub size : length (r .registers) ≡ stateLength n
+  -- a write: every device has its bytes, no other group changes, and the word says so
+  pub write : kind s ≡ 1
+      → (held n (group s) (r .registers) ≡ s .bytes)
+      × ((k h : ℕ) → k < n → h < 18 → (h ≡ group s → ⊥) → stored k h (r .registers) ≡ stored k h before)
+      × (r .word ≡ 2 ^ n - 1)
+  -- a clear: its groups are 0xFF on every device, no other group changes, and the word says so
   pub clear : kind s ≡ 3
-      → (r .word ≡ 2 ^ n - 1) × ((k h : ℕ) → k < n → h < 18 → sweeps (s .code) h ≡ true → stored k h (r .registers) ≡ replicate 6 255)
-  pub read : kind s ≡ 2 → (r .bytes ≡ over (held n (group s) before) (s .read)) × (r .marks ≡ over (replicate n 0) (s .marks))
+      → ((k h : ℕ) → k < n → h < 18 → stored k h (r .registers) ≡ pick (sweeps (s .code) h) (replicate 6 255) (stored k h before))
+      × (r .word ≡ 2 ^ n - 1)
+  -- a read: what every device holds, each marked as read, and no register changes
+  pub read : kind s ≡ 2
+      → (r .bytes ≡ over (held n (group s) before) (s .read))
+      × (r .marks ≡ over (replicate n 0) (s .marks))
+      × (r .registers ≡ before)
+      × (r .word ≡ 0)
+      × (r .asked ≡ 0)
+  -- after a write or clear the reader refuses, and touches nothing
+  pub no-read : (kind s ≡ 2 → ⊥) → (r .asked ≡ 7) × (r .bytes ≡ s .read) × (r .marks ≡ s .marks)
 
 -- the registers that a frame leaves
 abbrev pub after : Rig → ℕ → Sending → List ℕ → List ℕ
