@@ -12,3 +12,4 @@ pub mod FairFrames
 pub mod WrongHosts
 pub mod WrongChains
 pub mod WrongQuiet
+pub mod WrongOrder

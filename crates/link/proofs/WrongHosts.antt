@@ -94,10 +94,10 @@ trusting-fails d =
     clash (sym (ap (λ (x : ℕ). eqb x 0) trusting-reads) ∙ o .read kind-unheard .mark 0 (omega arith) ∙ ap not unheard-unread)
 
 -- IT SENDS DEVICE 1'S GROUP FIRST: the groups of two devices exchanged
-abbrev exchanged : List ℕ → List ℕ
+abbrev pub exchanged : List ℕ → List ℕ
 exchanged out = take 4 out ++ (take 8 (drop 12 out) ++ (take 8 (drop 4 out) ++ drop 20 out))
 
-abbrev backward : Rig
+abbrev pub backward : Rig
 backward = record {
   writer = λ n code bytes out. record {
     number = ours .writer n code bytes out .number;
