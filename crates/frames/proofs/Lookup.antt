@@ -3,7 +3,7 @@
 use mathlib.Core.Path.{_≡_, refl, sym, ap, _∙_}
 use mathlib.Core.Bool.{Bool, true, false, not, _&&_, _||_}
 use mathlib.Core.List.{List, [], _∷_, map}
-use Prim.Native.Nat.{ℕ, _+_, _*_, _≤_, _<_}
+use Prim.Native.Nat.{ℕ, suc, _+_, _*_, _≤_, _<_}
 use native.Mathlib.Numerals.{add-one}
 use native.Mathlib.Omega.{arith}
 use borrow.Author.Tests.{eqb-true, eqb-false, ltb-true, eq-eqb, ne-eqb}
@@ -85,6 +85,16 @@ row-found i h =
       eqb-true (kindOf (rowAt i .code)) (rowAt i .kind) (and-left (eqb (kindOf (rowAt i .code)) (rowAt i .kind)) (eqb (groupOf (rowAt i .code)) (rowAt i .group)) t),
       eqb-true (groupOf (rowAt i .code)) (rowAt i .group) (and-right (eqb (kindOf (rowAt i .code)) (rowAt i .kind)) (eqb (groupOf (rowAt i .code)) (rowAt i .group)) t),
     )
+
+-- a code that none of the 26 rows has is unknown
+absent : (code : ℕ) (rs : List Row) → ((i : ℕ) → i < length rs → getD rs i (row 0 0 0) .code ≡ code → ⊥) → found code rs ≡ row code 0 0
+unfolding found pick
+absent code [] none = refl
+absent code (r ∷ rs) none = rw (ne-eqb (r .code) code (none 0 (omega arith)), absent code rs (λ i h. none (suc i) (omega (arith, h))))
+
+pub unlisted : (code : ℕ) → ((i : ℕ) → i < 26 → rowAt i .code ≡ code → ⊥) → kindOf code ≡ 0
+unfolding kindOf rows
+unlisted code none = ap (λ (r : Row). r .kind) (absent code rows none)
 
 -- no code stands twice
 sameRow : ℕ → ℕ → Bool
