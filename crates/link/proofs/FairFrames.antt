@@ -1,13 +1,14 @@
--- The hypotheses of demand 3 can be met: every command at every size with no noise, and frames with noise. Assumes nothing.
-use mathlib.Core.Path.{_≡_, refl, sym, ap, _∙_}
-use mathlib.Core.Bool.{false}
+-- The hypotheses of demand 3 can be met, for every command and size: with no noise, with the command hit, and with the group of any one device hit, in a
+-- write on the way out and in a read on the way back. Assumes nothing.
+use mathlib.Core.Path.{_≡_, refl, sym, ap, ap₂, _∙_, subst}
+use mathlib.Core.Bool.{Bool, true, false, _||_}
 use mathlib.Core.Logic.{_⊎_, inl, inr}
 use mathlib.Core.List.{List, [], _∷_, _++_}
 use Prim.Native.Nat.{ℕ, zero, suc, _+_, _*_, _-_, _≤_, _<_}
 use native.Mathlib.Omega.{arith}
-use lib.Dec.{lit≤, lit<}
-use lib.ListN.{length, getD, replicate, length-replicate}
-use lib.Seq.{getD-drop, getD-take}
+use lib.Dec.{lit<}
+use lib.ListN.{length, getD, take, drop, replicate, length-append, length-replicate}
+use lib.Seq.{getD-drop, getD-take, drop-at}
 use Rattle.lent.specs.Bytes.{Bytes}
 use Rattle.lent.specs.Refusal.{pick}
 use Rattle.lent.proofs.Bytes.{bytes-append, bytes-replicate}
@@ -18,44 +19,238 @@ use Rattle.pec.proofs.Mask.{unhit-take, unhit-part, unhit-zeros}
 use Rattle.frames.specs.Kind.{dataNeeded, frameLength}
 use Rattle.frames.specs.Commands.{rows, found, kindOf}
 use Rattle.frames.specs.Places.{wire, eight}
+use Rattle.frames.proofs.KindCases.{needs-none, length-long, length-least}
 use Rattle.link.specs.Sending.{Sending, kind, Fair}
+use Rattle.link.specs.Promise.{lost, missed, unread}
 
--- A FRAME WITH NO NOISE, for any command and data
-abbrev pub plain : ℕ → ℕ → List ℕ → Sending
-plain n code bytes = record {
+-- A FRAME FOR ANY COMMAND AND DATA, with any masks
+abbrev pub masked : ℕ → ℕ → List ℕ → List ℕ → List ℕ → Sending
+masked n code bytes forth back = record {
   code = code;
   bytes = bytes;
   out = replicate (frameLength n (kindOf code)) 0;
   reply = replicate (frameLength n (kindOf code)) 0;
   read = replicate (6 * n) 0;
   marks = replicate n 0;
-  forth = replicate (frameLength n (kindOf code)) 0;
-  back = replicate (frameLength n (kindOf code)) 0;
+  forth = forth;
+  back = back;
 }
 
-pub plain-fair : (n code : ℕ) (bytes : List ℕ) → (kindOf code ≡ 0 → ⊥) → length bytes ≡ dataNeeded n (kindOf code) → Bytes bytes → Fair n (plain n code bytes)
-unfolding Allowed wire eight
-plain-fair n code bytes known needed are =
+-- a mask that flips nothing
+abbrev pub quiet : ℕ → ℕ → List ℕ
+quiet n code = replicate (frameLength n (kindOf code)) 0
+
+-- a mask of so many bytes that flips one bit, the lowest of the byte at a place
+abbrev pub flipped : ℕ → ℕ → List ℕ
+flipped at long = replicate at 0 ++ (1 ∷ replicate (long - suc at) 0)
+
+-- no noise
+abbrev pub plain : ℕ → ℕ → List ℕ → Sending
+plain n code bytes = masked n code bytes (quiet n code) (quiet n code)
+
+-- the closing bit of the command flipped
+abbrev pub commandHit : ℕ → ℕ → List ℕ → Sending
+commandHit n code bytes = masked n code bytes (flipped 3 (frameLength n (kindOf code))) (quiet n code)
+
+-- a write, one bit of the group of device k + 1 flipped
+abbrev pub groupHit : ℕ → ℕ → List ℕ → ℕ → Sending
+groupHit n code bytes k = masked n code bytes (flipped (4 + 8 * (n - 1 - k)) (frameLength n (kindOf code))) (quiet n code)
+
+-- a read, one bit of the reply group of device k + 1 flipped
+abbrev pub replyHit : ℕ → ℕ → ℕ → Sending
+replyHit n code k = masked n code [] (quiet n code) (flipped (4 + 8 * k) (frameLength n (kindOf code)))
+
+-- THE NOISE OF ONE FLIP
+zeros-at : (n i : ℕ) → getD {A = ℕ} (replicate n 0) i 0 ≡ 0
+zeros-at zero i = refl
+zeros-at (suc n) zero = refl
+zeros-at (suc n) (suc i) = zeros-at n i
+
+abbrev group-bits : List ℕ
+group-bits = bits (1 ∷ replicate 7 0)
+
+group-noise : Noise group-bits
+group-noise = burst 0 (lit< tt) within
+  where
+    within : (i : ℕ) → (i < 0) ⊎ (0 + 15 ≤ i) → getD group-bits i 0 ≡ 0
+    within i (inl h) = absurd (omega arith)
+    within i (inr h) =
+        let e : 15 + (i - 15) ≡ i = omega arith in
+        ap (λ (j : ℕ). getD group-bits j 0) (sym e) ∙ sym (getD-drop 15 group-bits (i - 15) 0) ∙ zeros-at 49 (i - 15)
+
+abbrev command-bits : List ℕ
+command-bits = bits (0 ∷ 0 ∷ 0 ∷ 1 ∷ [])
+
+command-noise : Noise command-bits
+command-noise = burst 31 (lit< tt) within
+  where
+    within : (i : ℕ) → (i < 31) ⊎ (31 + 15 ≤ i) → getD command-bits i 0 ≡ 0
+    within i (inl h) = sym (getD-take 31 command-bits i 0 h) ∙ zeros-at 31 i
+    within i (inr h) =
+        let e : 32 + (i - 32) ≡ i = omega arith in
+        ap (λ (j : ℕ). getD command-bits j 0) (sym e) ∙ sym (getD-drop 32 command-bits (i - 32) 0)
+
+-- WHERE ONE FLIP HITS: the group that it lies in, and no other
+flipped-long : (at long : ℕ) → at < long → length (flipped at long) ≡ long
+flipped-long at long h =
+    let rest : List ℕ = replicate (long - suc at) 0 in
+    let l : length (1 ∷ rest) ≡ suc (long - suc at) = ap suc (length-replicate {A = ℕ} (long - suc at) 0) in
+    omega (arith, length-append (replicate at 0) (1 ∷ rest), length-replicate {A = ℕ} at 0)
+
+flipped-bytes : (at long : ℕ) → Bytes (flipped at long)
+flipped-bytes at long =
+    bytes-append (replicate at 0) (1 ∷ replicate (long - suc at) 0) (bytes-replicate at 0 (lit< tt)) (lit< tt, bytes-replicate (long - suc at) 0 (lit< tt))
+
+before : (m at : ℕ) (rest : List ℕ) → m ≤ at → hit (take m (replicate at 0 ++ rest)) ≡ false
+unfolding hit
+before zero at rest h = refl
+before (suc m) zero rest h = absurd (omega arith)
+before (suc m) (suc at) rest h = before m at rest (omega arith)
+
+away : (from at more : ℕ) → (at < from) ⊎ (from + 8 ≤ at) → hit (take 8 (drop from (replicate at 0 ++ (1 ∷ replicate more 0)))) ≡ false
+away zero at more (inl h) = absurd (omega arith)
+away zero at more (inr h) = before 8 at (1 ∷ replicate more 0) (omega arith)
+away (suc from) zero more h = unhit-part 8 from (replicate more 0) (unhit-zeros more)
+away (suc from) (suc at) more (inl h) = away from at more (inl (omega arith))
+away (suc from) (suc at) more (inr h) = away from at more (inr (omega arith))
+
+take-zeros : (m n : ℕ) → m ≤ n → take m (replicate n 0) ≡ replicate {A = ℕ} m 0
+take-zeros zero n h = refl
+take-zeros (suc m) zero h = absurd (omega arith)
+take-zeros (suc m) (suc n) h = ap (λ (l : List ℕ). 0 ∷ l) (take-zeros m n (omega arith))
+
+group-at : (at long : ℕ) → at + 8 ≤ long → take 8 (drop at (flipped at long)) ≡ 1 ∷ replicate 7 0
+group-at at long h =
+    ap (take 8) (drop-at (replicate at 0) (1 ∷ replicate (long - suc at) 0) at (length-replicate {A = ℕ} at 0))
+    ∙ ap (λ (l : List ℕ). 1 ∷ l) (take-zeros 7 (long - suc at) (omega arith))
+
+group-hit : (at long : ℕ) → at + 8 ≤ long → hit (take 8 (drop at (flipped at long))) ≡ true
+group-hit at long h = ap hit (group-at at long h) ∙ (unfold hit in refl)
+
+order : (a b : ℕ) → (a < b) ⊎ ((a ≡ b) ⊎ (b < a))
+order zero zero = inr (inl refl)
+order zero (suc b) = inl (omega arith)
+order (suc a) zero = inr (inr (omega arith))
+order (suc a) (suc b) = more (order a b)
+  where
+    more : (a < b) ⊎ ((a ≡ b) ⊎ (b < a)) → (suc a < suc b) ⊎ ((suc a ≡ suc b) ⊎ (suc b < suc a))
+    more (inl h) = inl (omega arith)
+    more (inr (inl e)) = inr (inl (ap suc e))
+    more (inr (inr h)) = inr (inr (omega arith))
+
+groups-allowed : (a b long : ℕ) → 4 + 8 * a + 8 ≤ long → Allowed (take 8 (drop (4 + 8 * b) (flipped (4 + 8 * a) long)))
+unfolding Allowed
+groups-allowed a b long h = go (order a b)
+  where
+    go : (a < b) ⊎ ((a ≡ b) ⊎ (b < a)) → Allowed (take 8 (drop (4 + 8 * b) (flipped (4 + 8 * a) long)))
+    go (inl l) = inl (away (4 + 8 * b) (4 + 8 * a) (long - suc (4 + 8 * a)) (inl (omega arith)))
+    go (inr (inl e)) =
+        subst (λ (c : ℕ). Allowed (take 8 (drop (4 + 8 * c) (flipped (4 + 8 * a) long)))) e
+        (inr (subst (λ (l : List ℕ). Noise (bits l)) (sym (group-at (4 + 8 * a) long h)) group-noise))
+    go (inr (inr l)) = inl (away (4 + 8 * b) (4 + 8 * a) (long - suc (4 + 8 * a)) (inr (omega arith)))
+
+-- FAIR FRAMES, for every size, every command of the table and its data
+module _ (n code : ℕ) (bytes : List ℕ) (known : kindOf code ≡ 0 → ⊥) (needed : length bytes ≡ dataNeeded n (kindOf code)) (are : Bytes bytes) where
+  abbrev long : ℕ
+  long = frameLength n (kindOf code)
+
+  none : hit (quiet n code) ≡ false
+  none = unhit-zeros long
+
+  quiet-command : Allowed (take 4 (quiet n code))
+  unfolding Allowed
+  quiet-command = inl (unhit-take 4 (quiet n code) none)
+
+  quiet-groups : (k : ℕ) → Allowed (wire n k (quiet n code))
+  unfolding Allowed wire
+  quiet-groups k = inl (unhit-part 8 (4 + 8 * (n - 1 - k)) (quiet n code) none)
+
+  quiet-replies : (k : ℕ) → Allowed (eight k (quiet n code))
+  unfolding Allowed eight
+  quiet-replies k = inl (unhit-part 8 (4 + 8 * k) (quiet n code) none)
+
+  masked-fair : (forth back : List ℕ) → Bytes forth → length forth ≡ long → Bytes back → length back ≡ long
+      → (hit forth ≡ false) ⊎ (hit back ≡ false) → Allowed (take 4 forth) → (kindOf code ≡ 1 → (k : ℕ) → k < n → Allowed (wire n k forth))
+      → (kindOf code ≡ 2 → (k : ℕ) → k < n → Allowed (eight k back)) → Fair n (masked n code bytes forth back)
+  masked-fair forth back forth-bytes forth-long back-bytes back-long one-way command groups replies = record {
+    known = known;
+    needed = needed;
+    are-bytes = are;
+    out-room = omega (arith, length-replicate {A = ℕ} long 0);
+    reply-room = omega (arith, length-replicate {A = ℕ} long 0);
+    read-room = λ q. omega (arith, length-replicate {A = ℕ} (6 * n) 0);
+    marks-room = λ q. omega (arith, length-replicate {A = ℕ} n 0);
+    forth-bytes = forth-bytes;
+    forth-long = forth-long;
+    back-bytes = back-bytes;
+    back-long = back-long;
+    one-way = one-way;
+    command = command;
+    groups = groups;
+    replies = replies;
+  }
+
+  -- a mask on the way out, none on the way back; and the other way round
+  forth-fair : (forth : List ℕ) → Bytes forth → length forth ≡ long → Allowed (take 4 forth)
+      → (kindOf code ≡ 1 → (k : ℕ) → k < n → Allowed (wire n k forth)) → Fair n (masked n code bytes forth (quiet n code))
+  forth-fair forth forth-bytes forth-long command groups =
+      masked-fair forth (quiet n code) forth-bytes forth-long (bytes-replicate long 0 (lit< tt)) (length-replicate {A = ℕ} long 0) (inr none) command groups
+      (λ q k h. quiet-replies k)
+
+  back-fair : (back : List ℕ) → Bytes back → length back ≡ long → (kindOf code ≡ 2 → (k : ℕ) → k < n → Allowed (eight k back))
+      → Fair n (masked n code bytes (quiet n code) back)
+  back-fair back back-bytes back-long replies =
+      masked-fair (quiet n code) back (bytes-replicate long 0 (lit< tt)) (length-replicate {A = ℕ} long 0) back-bytes back-long (inl none) quiet-command
+      (λ q k h. quiet-groups k) replies
+
+  pub plain-fair : Fair n (plain n code bytes)
+  plain-fair = forth-fair (quiet n code) (bytes-replicate long 0 (lit< tt)) (length-replicate {A = ℕ} long 0) quiet-command (λ q k h. quiet-groups k)
+
+  pub command-hit-fair : Fair n (commandHit n code bytes)
+  unfolding Allowed wire
+  command-hit-fair =
+      let least : 4 ≤ long = length-least n (kindOf code) in
+      forth-fair (flipped 3 long) (flipped-bytes 3 long) (flipped-long 3 long (omega arith)) (inr command-noise)
+      (λ q k h. inl (away (4 + 8 * (n - 1 - k)) 3 (long - 4) (inl (omega arith))))
+
+  pub group-hit-fair : kindOf code ≡ 1 → (k : ℕ) → k < n → Fair n (groupHit n code bytes k)
+  unfolding Allowed wire
+  group-hit-fair w k h =
+      let e : long ≡ 4 + 8 * n = length-long n (kindOf code) (λ q. omega arith) in
+      let at : ℕ = 4 + 8 * (n - 1 - k) in
+      forth-fair (flipped at long) (flipped-bytes at long) (flipped-long at long (omega arith))
+      (inl (before 4 at (1 ∷ replicate (long - suc at) 0) (omega arith)))
+      (λ q j l. groups-allowed (n - 1 - k) (n - 1 - j) long (omega arith))
+
+-- The command is hit, or that device's group.
+pub command-hit-lost : (n code : ℕ) (bytes : List ℕ) → lost (commandHit n code bytes) ≡ true
+unfolding lost hit
+command-hit-lost n code bytes = refl
+
+pub group-hit-missed : (n code : ℕ) (bytes : List ℕ) → kindOf code ≡ 1 → (k : ℕ) → k < n → missed n (groupHit n code bytes k) k ≡ true
+unfolding missed lost wire
+group-hit-missed n code bytes w k h =
+    let e : frameLength n (kindOf code) ≡ 4 + 8 * n = length-long n (kindOf code) (λ q. omega arith) in
+    let at : ℕ = 4 + 8 * (n - 1 - k) in
+    ap₂ (λ (a b : Bool). a || b) (before 4 at (1 ∷ replicate (frameLength n (kindOf code) - suc at) 0) (omega arith))
+    (group-hit at (frameLength n (kindOf code)) (omega arith))
+
+-- a read takes no data
+pub reply-hit-fair : (n code k : ℕ) → kindOf code ≡ 2 → k < n → Fair n (replyHit n code k)
+unfolding eight
+reply-hit-fair n code k r h =
     let long : ℕ = frameLength n (kindOf code) in
-    let none : hit (replicate long 0) ≡ false = unhit-zeros long in
-    let size : length {A = ℕ} (replicate long 0) ≡ long = length-replicate {A = ℕ} long 0 in
-    record {
-      known = known;
-      needed = needed;
-      are-bytes = are;
-      out-room = omega arith;
-      reply-room = omega arith;
-      read-room = λ q. omega (arith, length-replicate {A = ℕ} (6 * n) 0);
-      marks-room = λ q. omega (arith, length-replicate {A = ℕ} n 0);
-      forth-bytes = bytes-replicate long 0 (omega arith);
-      forth-long = size;
-      back-bytes = bytes-replicate long 0 (omega arith);
-      back-long = size;
-      one-way = inl none;
-      command = inl (unhit-take 4 (replicate long 0) none);
-      groups = λ q i h. inl (unhit-part 8 (4 + 8 * (n - 1 - i)) (replicate long 0) none);
-      replies = λ q i h. inl (unhit-part 8 (4 + 8 * i) (replicate long 0) none);
-    }
+    let e : long ≡ 4 + 8 * n = length-long n (kindOf code) (λ q. omega arith) in
+    let at : ℕ = 4 + 8 * k in
+    back-fair n code [] (λ q. omega arith) (sym (needs-none n (kindOf code) (λ q. omega arith))) tt (flipped at long) (flipped-bytes at long)
+    (flipped-long at long (omega arith)) (λ q j l. groups-allowed k j long (omega arith))
+
+pub reply-hit-unread : (n code k : ℕ) → kindOf code ≡ 2 → k < n → unread (replyHit n code k) k ≡ true
+unfolding unread lost eight
+reply-hit-unread n code k r h =
+    let e : frameLength n (kindOf code) ≡ 4 + 8 * n = length-long n (kindOf code) (λ q. omega arith) in
+    ap₂ (λ (a b : Bool). a || b) (unhit-take 4 (quiet n code) (unhit-zeros (frameLength n (kindOf code))))
+    (group-hit (4 + 8 * k) (frameLength n (kindOf code)) (omega arith))
 
 -- read CFGA of one device; write CFGA of one and of two devices
 unfoldable pub get : Sending
@@ -91,162 +286,38 @@ pub kind-put2 : kind put2 ≡ 1
 unfolding put2 kindOf rows found pick
 kind-put2 = refl
 
-zeros-at : (n i : ℕ) → getD {A = ℕ} (replicate n 0) i 0 ≡ 0
-zeros-at zero i = refl
-zeros-at (suc n) zero = refl
-zeros-at (suc n) (suc i) = zeros-at n i
-
 -- A WRITE OF CFGA TO TWO DEVICES, one bit of device 2's group flipped
-abbrev one-flip : List ℕ
-one-flip = 0 ∷ 0 ∷ 0 ∷ 0 ∷ 1 ∷ replicate 15 0
-
 unfoldable pub hurt : Sending
-hurt = record {
-  code = 1;
-  bytes = replicate 12 5;
-  out = replicate 20 0;
-  reply = replicate 20 0;
-  read = replicate 12 0;
-  marks = replicate 2 0;
-  forth = one-flip;
-  back = replicate 20 0;
-}
-
-abbrev hurt-bits : List ℕ
-hurt-bits = bits (1 ∷ replicate 7 0)
-
-hurt-noise : Noise hurt-bits
-hurt-noise = burst 0 (lit< tt) within
-  where
-    within : (i : ℕ) → (i < 0) ⊎ (0 + 15 ≤ i) → getD hurt-bits i 0 ≡ 0
-    within i (inl h) = absurd (omega arith)
-    within i (inr h) =
-        let e : 15 + (i - 15) ≡ i = omega arith in
-        ap (λ (j : ℕ). getD hurt-bits j 0) (sym e) ∙ sym (getD-drop 15 hurt-bits (i - 15) 0) ∙ zeros-at 49 (i - 15)
-
-hurt-group : (k : ℕ) → k < 2 → Allowed (wire 2 k one-flip)
-unfolding Allowed wire hit
-hurt-group zero h = inl refl
-hurt-group (suc zero) h = inr hurt-noise
-hurt-group (suc (suc k)) h = absurd (omega arith)
+hurt = groupHit 2 1 (replicate 12 5) 1
 
 pub hurt-fair : Fair 2 hurt
-unfolding hurt kindOf rows found dataNeeded frameLength pick hit Allowed
-hurt-fair = record {
-  known = λ e. omega arith;
-  needed = refl;
-  are-bytes = bytes-replicate 12 5 (omega arith);
-  out-room = lit≤ tt;
-  reply-room = lit≤ tt;
-  read-room = λ q. lit≤ tt;
-  marks-room = λ q. lit≤ tt;
-  forth-bytes = (lit< tt, (lit< tt, (lit< tt, (lit< tt, (lit< tt, bytes-replicate 15 0 (lit< tt))))));
-  forth-long = refl;
-  back-bytes = bytes-replicate 20 0 (lit< tt);
-  back-long = refl;
-  one-way = inr refl;
-  command = inl refl;
-  groups = λ q k h. hurt-group k h;
-  replies = λ q k h. absurd (omega arith);
-}
+unfolding hurt kindOf rows found dataNeeded pick
+hurt-fair = group-hit-fair 2 1 (replicate 12 5) (λ e. omega arith) refl (bytes-replicate 12 5 (omega arith)) refl 1 (omega arith)
 
 pub kind-hurt : kind hurt ≡ 1
 unfolding hurt kindOf rows found pick
 kind-hurt = refl
 
--- A WRITE OF CFGA TO ONE DEVICE, the closing bit of the command flipped
-abbrev last-bit : List ℕ
-last-bit = 0 ∷ 0 ∷ 0 ∷ 1 ∷ replicate 8 0
-
+-- A WRITE OF CFGA TO ONE DEVICE AND A READ OF IT, the closing bit of the command flipped
 unfoldable pub clipped : Sending
-clipped = record {
-  code = 1;
-  bytes = replicate 6 5;
-  out = replicate 12 0;
-  reply = replicate 12 0;
-  read = replicate 6 0;
-  marks = replicate 1 0;
-  forth = last-bit;
-  back = replicate 12 0;
-}
-
-abbrev clipped-bits : List ℕ
-clipped-bits = bits (0 ∷ 0 ∷ 0 ∷ 1 ∷ [])
-
-clipped-noise : Noise clipped-bits
-clipped-noise = burst 31 (lit< tt) within
-  where
-    within : (i : ℕ) → (i < 31) ⊎ (31 + 15 ≤ i) → getD clipped-bits i 0 ≡ 0
-    within i (inl h) = sym (getD-take 31 clipped-bits i 0 h) ∙ zeros-at 31 i
-    within i (inr h) =
-        let e : 32 + (i - 32) ≡ i = omega arith in
-        ap (λ (j : ℕ). getD clipped-bits j 0) (sym e) ∙ sym (getD-drop 32 clipped-bits (i - 32) 0)
+clipped = commandHit 1 1 (replicate 6 5)
 
 pub clipped-fair : Fair 1 clipped
-unfolding clipped kindOf rows found dataNeeded frameLength pick hit Allowed wire
-clipped-fair = record {
-  known = λ e. omega arith;
-  needed = refl;
-  are-bytes = bytes-replicate 6 5 (omega arith);
-  out-room = lit≤ tt;
-  reply-room = lit≤ tt;
-  read-room = λ q. lit≤ tt;
-  marks-room = λ q. lit≤ tt;
-  forth-bytes = (lit< tt, (lit< tt, (lit< tt, (lit< tt, bytes-replicate 8 0 (lit< tt)))));
-  forth-long = refl;
-  back-bytes = bytes-replicate 12 0 (lit< tt);
-  back-long = refl;
-  one-way = inr refl;
-  command = inr clipped-noise;
-  groups = λ q k h. clipped-group k h;
-  replies = λ q k h. absurd (omega arith);
-}
-  where
-    clipped-group : (k : ℕ) → k < 1 → Allowed (wire 1 k last-bit)
-    clipped-group zero h = inl refl
-    clipped-group (suc k) h = absurd (omega arith)
+unfolding clipped kindOf rows found dataNeeded pick
+clipped-fair = command-hit-fair 1 1 (replicate 6 5) (λ e. omega arith) refl (bytes-replicate 6 5 (omega arith))
 
--- A READ OF CFGA OF ONE DEVICE, the command hit in the same bit; and a write of CFGA with other bytes for each of two devices
 unfoldable pub unheard : Sending
-unheard = record {
-  code = 2;
-  bytes = [];
-  out = replicate 12 0;
-  reply = replicate 12 0;
-  read = replicate 6 0;
-  marks = replicate 1 0;
-  forth = last-bit;
-  back = replicate 12 0;
-}
+unheard = commandHit 1 2 []
 
 pub unheard-fair : Fair 1 unheard
-unfolding unheard kindOf rows found dataNeeded frameLength pick hit Allowed eight
-unheard-fair = record {
-  known = λ e. omega arith;
-  needed = refl;
-  are-bytes = tt;
-  out-room = lit≤ tt;
-  reply-room = lit≤ tt;
-  read-room = λ q. lit≤ tt;
-  marks-room = λ q. lit≤ tt;
-  forth-bytes = (lit< tt, (lit< tt, (lit< tt, (lit< tt, bytes-replicate 8 0 (lit< tt)))));
-  forth-long = refl;
-  back-bytes = bytes-replicate 12 0 (lit< tt);
-  back-long = refl;
-  one-way = inr refl;
-  command = inr clipped-noise;
-  groups = λ q k h. absurd (omega arith);
-  replies = λ q k h. quiet-group k h;
-}
-  where
-    quiet-group : (k : ℕ) → k < 1 → Allowed (eight k (replicate 12 0))
-    quiet-group zero h = inl refl
-    quiet-group (suc k) h = absurd (omega arith)
+unfolding unheard kindOf rows found dataNeeded pick
+unheard-fair = command-hit-fair 1 2 [] (λ e. omega arith) refl tt
 
 pub kind-unheard : kind unheard ≡ 2
 unfolding unheard kindOf rows found pick
 kind-unheard = refl
 
+-- A WRITE OF CFGA WITH OTHER BYTES for each of two devices
 unfoldable pub both : Sending
 both = plain 2 1 (replicate 6 5 ++ replicate 6 6)
 
