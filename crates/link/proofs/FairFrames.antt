@@ -298,6 +298,18 @@ pub kind-hurt : kind hurt ≡ 1
 unfolding hurt kindOf rows found pick
 kind-hurt = refl
 
+-- the same of three devices, one bit of device 3's group flipped
+unfoldable pub hurt3 : Sending
+hurt3 = groupHit 3 1 (replicate 18 5) 2
+
+pub hurt3-fair : Fair 3 hurt3
+unfolding hurt3 kindOf rows found dataNeeded pick
+hurt3-fair = group-hit-fair 3 1 (replicate 18 5) (λ e. omega arith) refl (bytes-replicate 18 5 (omega arith)) refl 2 (omega arith)
+
+pub kind-hurt3 : kind hurt3 ≡ 1
+unfolding hurt3 kindOf rows found pick
+kind-hurt3 = refl
+
 -- A WRITE OF CFGA TO ONE DEVICE AND A READ OF IT, the closing bit of the command flipped
 unfoldable pub clipped : Sending
 clipped = commandHit 1 1 (replicate 6 5)

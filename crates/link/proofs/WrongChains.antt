@@ -1,11 +1,11 @@
 -- Chains that 01's last section and its traps name: each is a rig that does not meet demand 3. Assumes nothing.
 use mathlib.Core.Path.{_≡_, refl, sym, ap, _∙_, subst}
-use mathlib.Core.Bool.{Bool, true, false}
+use mathlib.Core.Bool.{Bool, true, false, _&&_}
 use mathlib.Core.List.{List, _++_}
-use Prim.Native.Nat.{ℕ, zero, suc, _-_, _*_, _/_, _%_, _^_}
+use Prim.Native.Nat.{ℕ, zero, suc, _+_, _-_, _*_, _/_, _%_, _^_}
 use native.Mathlib.Omega.{arith}
 use borrow.Author.Tests.{eqb-true}
-use lib.Dec.{eqb}
+use lib.Dec.{eqb, ltb}
 use lib.ListN.{length, take, drop, set, getD, replicate, length-append}
 use lib.Seq.{drop-at}
 use Rattle.lent.specs.Memory.{over, splice}
@@ -17,7 +17,7 @@ use Rattle.pec.specs.Register.{remainderOf, pecOf}
 use Rattle.pec.specs.Group.{twoBytes, withPec, body, sent, offBy, right}
 use Rattle.pec.specs.Noise.{noisy, hit}
 use Rattle.frames.specs.Size.{outside}
-use Rattle.frames.specs.Kind.{dataNeeded, frameLength}
+use Rattle.frames.specs.Kind.{isWrite, dataNeeded, frameLength}
 use Rattle.frames.specs.Commands.{rows, found, kindOf, groupOf}
 use Rattle.frames.specs.Places.{six, wire}
 use Rattle.frames.specs.Frame.{writeGroups, frameBody, frameOf}
@@ -30,7 +30,8 @@ use Rattle.link.specs.Sending.{group}
 use Rattle.link.specs.Step.{frame, arrives, serves, step}
 use Rattle.link.specs.Promise.{lost, missed}
 use Rattle.link.specs.Demands.{Demand3}
-use Rattle.link.proofs.FairFrames.{put, put-fair, kind-put, put2, put2-fair, kind-put2, hurt, hurt-fair, kind-hurt, clipped, clipped-fair}
+use Rattle.link.proofs.FairFrames.{group-hit-missed, put, put-fair, kind-put, put2, put2-fair, kind-put2, hurt, hurt-fair, kind-hurt}
+use Rattle.link.proofs.FairFrames.{hurt3, hurt3-fair, kind-hurt3, clipped, clipped-fair}
 use Rattle.link.proofs.WrongHosts.{one}
 
 -- ours but for the registers, of which f makes others
@@ -93,38 +94,49 @@ dropping-fails d =
     (ours .chain 2 (arrives dropping 2 hurt) (replicate 216 7) (hurt .reply) .registers)
     (o .write kind-hurt .word 1 (omega arith)) (o .write kind-hurt .own 0 (omega arith))
 
--- IT STORES ALL because some are right
+-- IT STORES ALL because most are right: of a write, every group where more than half of them are right, and else what ours stores
 abbrev spill : ℕ → ℕ → ℕ → List ℕ → List ℕ → List ℕ
 spill n zero g frame state = state
 spill n (suc k) g frame state = splice (spot k g) (take 6 (wire n k frame)) (spill n k g frame state)
 
-abbrev generous : Rig
-generous = withRegisters (λ n frame state reply. pick (eqb (ours .chain n frame state reply .word) 0) state (spill n n (groupOf (codeOf frame)) frame state))
+-- how many of the low n bits of a word are set
+abbrev ones : ℕ → ℕ → ℕ
+ones zero word = 0
+ones (suc k) word = ones k word + word / 2 ^ k % 2
 
-generous-stores : getD (stored 1 0 (step generous 2 hurt (replicate 216 7) .registers)) 0 0 ≡ 4
-unfolding step serves arrives frame noisy hurt splice stored spot wire chainNumber chainWord report storedBits bitsWhere first pick outside right offBy sent body codeOf stateLength frameLength kindOf groupOf rows found writerNumber writerLength writerOut dataNeeded frameOf frameBody writeGroups withPec six twoBytes over pecOf remainderOf Register.step
+abbrev most : ℕ → List ℕ → ℕ → Bool
+most n frame word = isWrite (kindOf (codeOf frame)) && ltb n (2 * ones n word)
+
+abbrev generous : Rig
+generous = withRegisters
+    (λ n frame state reply. pick (most n frame (ours .chain n frame state reply .word)) (spill n n (groupOf (codeOf frame)) frame state)
+    (ours .chain n frame state reply .registers))
+
+-- two groups of three are right, and device 3 takes a byte that was never sent to it
+generous-stores : getD (stored 2 0 (step generous 3 hurt3 (replicate 324 7) .registers)) 0 0 ≡ 4
+unfolding step serves arrives frame noisy hurt3 splice stored spot wire chainNumber chainWord report storedBits bitsWhere first pick outside right offBy sent body codeOf stateLength frameLength kindOf groupOf rows found writerNumber writerLength writerOut dataNeeded frameOf frameBody writeGroups withPec six twoBytes over pecOf remainderOf Register.step
 generous-stores = refl
 
-generous-own : (registers : List ℕ) → getD (stored 1 0 registers) 0 0 ≡ 4 → stored 1 0 registers ≡ stored 1 0 (replicate 216 7) → ⊥
+generous-own : (registers : List ℕ) → getD (stored 2 0 registers) 0 0 ≡ 4 → stored 2 0 registers ≡ stored 2 0 (replicate 324 7) → ⊥
 generous-own registers a e =
-    let z : getD (stored 1 0 (replicate 216 7)) 0 0 ≡ 7 = unfold stored spot in refl in
+    let z : getD (stored 2 0 (replicate 324 7)) 0 0 ≡ 7 = unfold stored spot in refl in
     let q : _≡_ {A = ℕ} 4 7 = sym a ∙ ap (λ (l : List ℕ). getD l 0 0) e ∙ z in
     omega arith
 
-hurt-missed : missed 2 hurt 1 ≡ true
-unfolding missed lost hit wire hurt
-hurt-missed = refl
+hurt3-missed : missed 3 hurt3 2 ≡ true
+unfolding hurt3 kindOf rows found pick
+hurt3-missed = group-hit-missed 3 1 (replicate 18 5) refl 2 (omega arith)
 
-hurt-zero : group hurt ≡ 0
-unfolding hurt groupOf rows found pick
-hurt-zero = refl
+hurt3-zero : group hurt3 ≡ 0
+unfolding hurt3 groupOf rows found pick
+hurt3-zero = refl
 
 pub generous-fails : Demand3 generous → ⊥
 generous-fails d =
-    let o = one generous d 2 (omega arith) (omega arith) hurt hurt-fair in
-    generous-own (step generous 2 hurt (replicate 216 7) .registers) generous-stores
-    (subst (λ (g : ℕ). stored 1 g (step generous 2 hurt (replicate 216 7) .registers) ≡ stored 1 g (replicate 216 7)) hurt-zero
-    (o .write kind-hurt .own 1 (omega arith) ∙ pick-true (missed 2 hurt 1) (stored 1 (group hurt) (replicate 216 7)) (six 1 (hurt .bytes)) hurt-missed))
+    let o = one generous d 3 (omega arith) (omega arith) hurt3 hurt3-fair in
+    generous-own (step generous 3 hurt3 (replicate 324 7) .registers) generous-stores
+    (subst (λ (g : ℕ). stored 2 g (step generous 3 hurt3 (replicate 324 7) .registers) ≡ stored 2 g (replicate 324 7)) hurt3-zero
+    (o .write kind-hurt3 .own 2 (omega arith) ∙ pick-true (missed 3 hurt3 2) (stored 2 (group hurt3) (replicate 324 7)) (six 2 (hurt3 .bytes)) hurt3-missed))
 
 -- IT COMPARES ONLY 15 BITS of the command's check word
 abbrev closed : List ℕ → List ℕ
