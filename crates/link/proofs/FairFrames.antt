@@ -329,6 +329,22 @@ pub kind-unheard : kind unheard ≡ 2
 unfolding unheard kindOf rows found pick
 kind-unheard = refl
 
+-- A READ OF CFGA OF SIXTEEN DEVICES, one bit of device 1's reply group flipped
+unfoldable pub garbled : Sending
+garbled = replyHit 16 2 0
+
+pub garbled-fair : Fair 16 garbled
+unfolding garbled kindOf rows found pick
+garbled-fair = reply-hit-fair 16 2 0 refl (omega arith)
+
+pub garbled-unread : unread garbled 0 ≡ true
+unfolding garbled kindOf rows found pick
+garbled-unread = reply-hit-unread 16 2 0 refl (omega arith)
+
+pub kind-garbled : kind garbled ≡ 2
+unfolding garbled kindOf rows found pick
+kind-garbled = refl
+
 -- A WRITE OF CFGA WITH OTHER BYTES for each of two devices
 unfoldable pub both : Sending
 both = plain 2 1 (replicate 6 5 ++ replicate 6 6)

@@ -1,10 +1,10 @@
 -- Readers and writers that 01's last section and its traps name: each is a rig that does not meet demand 3. Assumes nothing.
 use mathlib.Core.Path.{_≡_, refl, sym, ap, _∙_, subst}
-use mathlib.Core.Bool.{true, false, not}
+use mathlib.Core.Bool.{true, false, not, _&&_}
 use mathlib.Core.List.{List, [], _∷_, _++_}
-use Prim.Native.Nat.{ℕ, _*_, _≤_}
+use Prim.Native.Nat.{ℕ, zero, suc, _+_, _*_, _≤_}
 use native.Mathlib.Omega.{arith}
-use lib.Dec.{eqb}
+use lib.Dec.{eqb, ltb}
 use lib.ListN.{getD, take, drop, replicate, length-replicate}
 use Rattle.lent.specs.Memory.{over, splice}
 use Rattle.lent.specs.Refusal.{pick, first}
@@ -22,15 +22,17 @@ use Rattle.frames.specs.Places.{six, wire, eight}
 use Rattle.frames.specs.Frame.{writeGroups, frameBody, frameOf}
 use Rattle.frames.specs.Writer.{writerNumber, writerLength, writerOut}
 use Rattle.chain.specs.State.{stateLength, spot, stored, storing}
-use Rattle.chain.specs.Effect.{silence, written, answer, changed}
+use Rattle.chain.specs.Effect.{silence, answers, written, answer, changed}
 use Rattle.chain.specs.Chain.{codeOf, chainNumber, fills, chainState, chainReply}
 use Rattle.host.specs.Marks.{silent}
+use Rattle.host.specs.Reader.{readerNumber}
 use Rattle.link.specs.Rig.{Rig, ours}
 use Rattle.link.specs.Sending.{Sending, group, Fair}
 use Rattle.link.specs.Step.{frame, arrives, serves, returns, hands, step}
 use Rattle.link.specs.Promise.{lost, missed, unread, Obeys}
 use Rattle.link.specs.Demands.{Demand3}
 use Rattle.link.proofs.FairFrames.{get, get-fair, kind-get, unheard, unheard-fair, kind-unheard, both, both-fair, kind-both}
+use Rattle.link.proofs.FairFrames.{garbled, garbled-fair, garbled-unread, kind-garbled}
 
 -- what the demand says of one frame on registers full of 7
 pub one : (R : Rig) → Demand3 R → (n : ℕ) → 1 ≤ n → n ≤ 16 → (s : Sending) → Fair n s → Obeys R n s (replicate (108 * n) 7) (step R n s (replicate (108 * n) 7))
@@ -92,6 +94,34 @@ pub trusting-fails : Demand3 trusting → ⊥
 trusting-fails d =
     let o = one trusting d 1 (omega arith) (omega arith) unheard unheard-fair in
     clash (sym (ap (λ (x : ℕ). eqb x 0) trusting-reads) ∙ o .read kind-unheard .mark 0 (omega arith) ∙ ap not unheard-unread)
+
+-- IT KEEPS THE WHOLE REPLY because more than nine in ten of its groups are right: mark 0 for every device, and the bytes as they came; else it does as ours
+abbrev rights : ℕ → List ℕ → ℕ
+rights zero r = 0
+rights (suc k) r = rights k r + pick (right (eight k r)) 1 0
+
+abbrev asCame : ℕ → List ℕ → List ℕ
+asCame zero r = []
+asCame (suc k) r = asCame k r ++ take 6 (eight k r)
+
+abbrev counting : Rig
+counting = record {
+  writer = ours .writer;
+  chain = ours .chain;
+  reader = λ n code r bytes marks.
+      pick (eqb (ours .reader n code r bytes marks .number) 0 && ltb (9 * n) (10 * rights n r))
+      (record { number = 0; bytes = over (asCame n r) bytes; marks = over (replicate n 0) marks }) (ours .reader n code r bytes marks);
+}
+
+-- fifteen groups of sixteen are right, and the one that is not is marked as read
+counting-reads : getD (step counting 16 garbled (replicate 1728 7) .marks) 0 0 ≡ 0
+unfolding step hands returns serves arrives frame noisy garbled eight over silence answers stored spot chainNumber chainReply fills answer readerNumber first pick outside right offBy sent body codeOf stateLength frameLength kindOf groupOf rows found writerNumber writerLength writerOut dataNeeded frameOf frameBody withPec twoBytes pecOf remainderOf Register.step
+counting-reads = refl
+
+pub counting-fails : Demand3 counting → ⊥
+counting-fails d =
+    let o = one counting d 16 (omega arith) (omega arith) garbled garbled-fair in
+    clash (sym (ap (λ (x : ℕ). eqb x 0) counting-reads) ∙ o .read kind-garbled .mark 0 (omega arith) ∙ ap not garbled-unread)
 
 -- IT SENDS DEVICE 1'S GROUP FIRST: the groups of two devices exchanged
 abbrev pub exchanged : List ℕ → List ℕ
