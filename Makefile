@@ -11,6 +11,7 @@ PREFIX ?= /usr/local
 VERSION := 1.0.0
 CHECKED := -Wall -Wextra -Wpedantic -Werror -Iinclude
 ARCHIVE := build/librig.a
+SECOND := build/bench/release/libsecond_c.a
 C99 := gcc -std=c99 -O2 $(CHECKED)
 SOURCES := crates.txt $(shell find $(addprefix crates/,lent pec frames chain host capi) -name '*.rt' -o -name '*.antt')
 
@@ -104,8 +105,8 @@ entries: $(ARCHIVE)
 	@RIG_LIB='$(CURDIR)/$(ARCHIVE)' cargo test --offline --quiet --release --manifest-path second/Cargo.toml --test entries -- --nocapture
 
 # Lent buffers stand flush against inaccessible pages: one byte outside traps.
-build/fuzz: tests/fuzz.c tests/plain.c tests/plain.h include/rig.h $(ARCHIVE)
-	@clang -std=c99 -g -O1 -fsanitize=fuzzer,undefined -fno-sanitize-recover=undefined $(CHECKED) tests/fuzz.c tests/plain.c $(ARCHIVE) -o $@
+build/fuzz: tests/fuzz.c tests/plain.c tests/plain.h include/rig.h $(ARCHIVE) $(SECOND)
+	@clang -std=c99 -g -O1 -fsanitize=fuzzer,undefined -fno-sanitize-recover=undefined $(CHECKED) tests/fuzz.c tests/plain.c $(ARCHIVE) $(SECOND) -o $@
 
 fuzz_some: build/fuzz
 	@echo '== fuzz: 1,000,000 inputs to the C entries, lent buffers against inaccessible pages'
@@ -120,11 +121,11 @@ fuzz: build/fuzz
 bench: build/bench/bench
 	@build/bench/bench $(ARGS)
 
-build/bench/bench: $(wildcard bench/*.c bench/*.h) include/rig.h $(ARCHIVE) build/bench/release/libsecond_c.a
-	@$(C99) $(filter %.c,$^) $(ARCHIVE) build/bench/release/libsecond_c.a -o $@
+build/bench/bench: $(wildcard bench/*.c bench/*.h) bench/second/second.h include/rig.h $(ARCHIVE) $(SECOND)
+	@$(C99) $(filter %.c,$^) $(ARCHIVE) $(SECOND) -o $@
 
-build/bench/release/libsecond_c.a: $(wildcard bench/second/Cargo.* bench/second/src/*.rs second/Cargo.* second/src/*.rs)
-	@echo '== bench: second/ as a C library'
+$(SECOND): $(wildcard bench/second/Cargo.* bench/second/src/*.rs second/Cargo.* second/src/*.rs)
+	@echo '== second/ as a C library, to be held beside the archive'
 	@cargo build --offline --quiet --release --manifest-path bench/second/Cargo.toml --target-dir build/bench
 
 fmt:

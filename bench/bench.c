@@ -4,6 +4,7 @@
 
 #include "plain.h"
 #include "rig.h"
+#include "second/second.h"
 
 #include <stdio.h>
 #include <stdlib.h>
@@ -23,13 +24,6 @@ struct maker {
     struct rig_readings (*cells)(const uint8_t *, size_t, const uint8_t *, size_t);
     uint8_t (*tally_add)(struct rig_tally *, const uint8_t *, size_t);
 };
-
-uint16_t second_pec(const uint8_t *, size_t);
-struct rig_written second_write(uint32_t, uint32_t, const uint8_t *, size_t, uint8_t *, size_t);
-struct rig_heard second_chain(uint32_t, const uint8_t *, size_t, uint8_t *, size_t, uint8_t *, size_t);
-uint8_t second_read(uint32_t, uint32_t, const uint8_t *, size_t, uint8_t *, size_t, uint8_t *, size_t);
-struct rig_readings second_cells(const uint8_t *, size_t, const uint8_t *, size_t);
-uint8_t second_tally_add(struct rig_tally *, const uint8_t *, size_t);
 
 static const struct maker makers[MAKERS] = {
     {"the archive", rig_pec, rig_write, rig_chain, rig_read, rig_cells, rig_tally_add},
