@@ -26,7 +26,7 @@
  * A refusal changes nothing lent, but for one case that rig_chain states. Where several refusals apply, the first of the
  * entry's list is given. Numbers wider than they need be are wide on purpose: n 65537 is refused, and not cut down to 1.
  *
- * Compiles as C99 and later and as C++98 and later.
+ * Compiles as C99 and later and as C++98 and later, with no warning at -Wall -Wextra -Wpedantic.
  */
 #ifndef RIG_H
 #define RIG_H
