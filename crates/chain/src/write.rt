@@ -16,7 +16,7 @@ fn take_group(table: &[u16; 256], group: &[u8], bit: u16, registers: &mut [u8]) 
         × (now (registers .exit) ≡ pick (right (now (group .entry))) (take 6 (now (group .entry))) (now (registers .entry))) ⌝ }
 {
     if pec::is_right(table, group) {
-        bytes::copy(&group[0..6], registers);
+        lent::copy_six(&group[0..6], registers);
         return bit;
     }
     0

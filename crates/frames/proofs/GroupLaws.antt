@@ -1,11 +1,12 @@
 -- The data groups of a write: how long they are, and one by one. Assumes nothing.
 use mathlib.Core.Path.{_≡_, refl, sym, ap, _∙_}
-use mathlib.Core.List.{List, _++_}
+use mathlib.Core.List.{List, [], _∷_, _++_}
 use Prim.Native.Nat.{ℕ, zero, suc, _+_, _*_, _-_, _≤_, _<_, _/_, _%_}
 use native.Mathlib.Omega.{arith}
 use lib.ListN.{length, take, drop, set, length-append, length-take, length-drop}
 use lib.Seq.{drop-at, drop-append-le, take-append-le, take-all}
 use borrow.Rule.Slice.PartMut.{putMid}
+use Rattle.lent.specs.Memory.{over}
 use Rattle.lent.proofs.Over.{two-more, upto, length-upto, upto-more, rest}
 use Rattle.pec.specs.Register.{pecOf}
 use Rattle.pec.specs.Group.{twoBytes, withPec}
@@ -13,11 +14,21 @@ use Rattle.pec.proofs.Group.{length-withPec}
 use Rattle.frames.specs.Places.{six}
 use Rattle.frames.specs.Frame.{writeGroups}
 
--- the copy of d and the two stores behind it are the group
-pub group-put : (d part copy : List ℕ) (at word : ℕ) → length part ≡ length d + 2 → at ≡ length d → copy ≡ take (length d) d ++ drop (length d) part → word ≡ pecOf d
-    → set (set copy at (word / 256)) (at + 1) (word % 256) ≡ withPec d
+-- six bytes and the two stores behind them are a data group, four stores a command group
+pub group-put : (d part copy : List ℕ) (word : ℕ) → length d ≡ 6 → length part ≡ 8 → copy ≡ over d part → word ≡ pecOf d
+    → set (set copy 6 (word / 256)) 7 (word % 256) ≡ withPec d
 unfolding withPec twoBytes
-group-put d part copy at word h ea ec ew = rw (ea, ec, ew) (two-more d part (pecOf d / 256) (pecOf d % 256) h)
+group-put d part copy word h k ec ew =
+    let e : length d + 1 ≡ 7 = omega arith in
+    rw (ec, ew, ← h, ← e) (two-more d part (pecOf d / 256) (pecOf d % 256) (omega arith))
+
+pub four-stored : (part : List ℕ) (a b c d : ℕ) → length part ≡ 4 → set (set (set (set part 0 a) 1 b) 2 c) 3 d ≡ a ∷ b ∷ c ∷ d ∷ []
+four-stored [] a b c d h = absurd (omega arith)
+four-stored (p ∷ []) a b c d h = absurd (omega arith)
+four-stored (p ∷ q ∷ []) a b c d h = absurd (omega arith)
+four-stored (p ∷ q ∷ r ∷ []) a b c d h = absurd (omega arith)
+four-stored (p ∷ q ∷ r ∷ s ∷ []) a b c d h = refl
+four-stored (p ∷ q ∷ r ∷ s ∷ t ∷ u) a b c d h = absurd (omega arith)
 
 pub length-six : (k : ℕ) (bytes : List ℕ) → 6 * k + 6 ≤ length bytes → length (six k bytes) ≡ 6
 unfolding six

@@ -43,8 +43,7 @@ fn put_frame(n: usize, code: u32, kind: u8, bytes: &[u8], out: &mut [u8])
     ensures { λ _. ⌜ now (out .exit) ≡ over (frameOf n code (now (bytes .entry))) (now (out .entry)) ⌝ }
 {
     let table = pec::table();
-    let command = [(code / 256) as u8, (code % 256) as u8];
-    groups::put_group(&table, &command, &mut out[0..4]);
+    groups::put_command(&table, code, &mut out[0..4]);
     let end = 4 + 8 * n;
     if kind == commands::WRITE {
         groups::put_groups(&table, n, bytes, &mut out[4..end]);

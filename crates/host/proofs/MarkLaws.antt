@@ -49,16 +49,6 @@ right-not-silent g h r = go (silent g) refl
     go true s = absurd (omega (arith, last s, closing-zero g r))
     go false s = s
 
--- a group's six bytes, one by one
-pub first-six : (g : List ℕ) → length g ≡ 8 → getD g 0 0 ∷ getD g 1 0 ∷ getD g 2 0 ∷ getD g 3 0 ∷ getD g 4 0 ∷ getD g 5 0 ∷ [] ≡ take 6 g
-first-six [] h = absurd (omega arith)
-first-six (a ∷ []) h = absurd (omega arith)
-first-six (a ∷ b ∷ []) h = absurd (omega arith)
-first-six (a ∷ b ∷ c ∷ []) h = absurd (omega arith)
-first-six (a ∷ b ∷ c ∷ d ∷ []) h = absurd (omega arith)
-first-six (a ∷ b ∷ c ∷ d ∷ e ∷ []) h = absurd (omega arith)
-first-six (a ∷ b ∷ c ∷ d ∷ e ∷ f ∷ g) h = refl
-
 -- The three marks, and what goes with them.
 module _ (g : List ℕ) where
   pub mark-silent : silent g ≡ true → markOf g ≡ silentMark

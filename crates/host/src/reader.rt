@@ -45,9 +45,7 @@ fn read_group(table: &[u16; 256], group: &[u8], part: &mut [u8]) -> u8
 {
     let mark = mark_of(table, group);
     if mark == marks::READ {
-        // All six are taken before the first is stored, so that the compiler keeps them in registers.
-        let six = [group[0], group[1], group[2], group[3], group[4], group[5]];
-        bytes::copy(&six, part);
+        lent::copy_six(&group[0..6], part);
         return mark;
     }
     lent::fill(part, 0);

@@ -4,4 +4,5 @@ pub mod First
 pub mod BitsWhere
 pub mod Bytes
 pub mod Over
+pub mod Six
 pub mod Splice

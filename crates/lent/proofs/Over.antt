@@ -92,13 +92,10 @@ upto-more new old piece left at to n e t hn ho h =
 pub filled : (after : List ℕ) (v m n : ℕ) → after ≡ replicate m v → length after ≡ n → after ≡ replicate n v
 filled after v m n e h = e ∙ ap (λ (k : ℕ). replicate k v) (sym (ap length e ∙ length-replicate m v) ∙ h)
 
--- a whole part that was copied over
-pub copied : (from part after : List ℕ) → length part ≡ length from → after ≡ take (length from) from ++ drop (length from) part → after ≡ from
-copied from part after h e = e ∙ rw (take-length, drop-of-length-le part {i = length from} (omega arith), append-nil)
-
 -- two bytes after the copy of d, in a part that has room for just these
 pub two-more : (d part : List ℕ) (x y : ℕ) → length part ≡ length d + 2
-    → set (set (take (length d) d ++ drop (length d) part) (length d) x) (length d + 1) y ≡ d ++ (x ∷ y ∷ [])
+    → set (set (over d part) (length d) x) (length d + 1) y ≡ d ++ (x ∷ y ∷ [])
+unfolding over
 two-more d part x y e =
     let h : length d < length part = omega arith in
     let k : suc (length d) < length part = omega arith in
@@ -107,7 +104,7 @@ two-more d part x y e =
     drop-cons part (length d) 0 h
     ∙ ap (λ (l : List ℕ). getD part (length d) 0 ∷ l) (drop-cons part (suc (length d)) 0 k ∙ ap (λ (l : List ℕ). getD part (suc (length d)) 0 ∷ l) none) in
     let one-more : length (d ++ (x ∷ [])) ≡ length d + 1 = length-append d (x ∷ []) in
-    rw (take-length, two, set-at d (getD part (length d) 0) (getD part (suc (length d)) 0 ∷ []) x (length d) refl)
+    rw (two, set-at d (getD part (length d) 0) (getD part (suc (length d)) 0 ∷ []) x (length d) refl)
     (rw (← append-snoc d x (getD part (suc (length d)) 0 ∷ []))
     (set-at (d ++ (x ∷ [])) (getD part (suc (length d)) 0) [] y (length d + 1) one-more ∙ append-snoc d x (y ∷ [])))
 

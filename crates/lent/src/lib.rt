@@ -1,6 +1,8 @@
 // Work on lent bytes.
 ghost use mathlib.Core.Path.{_≡_};
+ghost use Prim.Native.Nat.{_≤_};
 ghost use lib.ListN.{length, replicate};
+ghost use Rattle.lent.specs.Memory.{over};
 
 // Every byte of `part` becomes `value`.
 pub fn fill(part: &mut [u8], value: u8)
@@ -11,4 +13,23 @@ pub fn fill(part: &mut [u8], value: u8)
         part[i] = value;
         i += 1;
     }
+}
+
+// A group's six bytes over the start of `part`: all are taken before the first is stored, so that a compiler moves them whole.
+pub fn copy_six(bytes: &[u8], part: &mut [u8])
+    requires { ⌜ (length (now bytes) ≡ 6) × (6 ≤ length (now part)) ⌝ }
+    ensures { λ _. ⌜ now (part .exit) ≡ over (now (bytes .entry)) (now (part .entry)) ⌝ }
+{
+    let first = bytes[0];
+    let second = bytes[1];
+    let third = bytes[2];
+    let fourth = bytes[3];
+    let fifth = bytes[4];
+    let sixth = bytes[5];
+    part[0] = first;
+    part[1] = second;
+    part[2] = third;
+    part[3] = fourth;
+    part[4] = fifth;
+    part[5] = sixth;
 }

@@ -5,24 +5,24 @@ use borrow.Author.Needs.{needs}
 use lib.ListN.{length, take}
 use lib.Seq.{length-take-le}
 use Rattle.lent.specs.Refusal.{pick}
-use Rattle.lent.proofs.Over.{copied}
+use Rattle.lent.proofs.Over.{over-full}
 use Rattle.chain.proofs.write.take_group.Statement.{statement}
 use Rattle.chain.proofs.write.take_group.Tie as tie
 
 is-right-requires : tie.Need-is-right-requires
 is-right-requires c κs = search needs
 
-sub-copy : tie.Need-sub-copy
-sub-copy c = search needs
+sub-copy-six : tie.Need-sub-copy-six
+sub-copy-six c = search needs
 
-part-copy-start : tie.Need-part-copy-start
-part-copy-start c = search needs
+part-copy-six-start : tie.Need-part-copy-six-start
+part-copy-six-start c = search needs
 
-part-copy-end : tie.Need-part-copy-end
-part-copy-end c = search needs
+part-copy-six-end : tie.Need-part-copy-six-end
+part-copy-six-end c = search needs
 
-copy-requires : tie.Need-copy-requires
-copy-requires c κs = search needs
+copy-six-requires : tie.Need-copy-six-requires
+copy-six-requires c κs = search needs
 
 same-length : tie.Need-same-length
 same-length c = search needs
@@ -33,7 +33,7 @@ returns c =
     let a = c .before .before .before .before .before .before .before .before .before .args in
     let good = sym (c .before .before .before .before .before .before .is-right .ensures) ∙ c .before .before .before .before .before .if1 .taken in
     let six : length (take 6 (a .group .now)) ≡ 6 = length-take-le 6 (a .group .now) (omega arith) in
-    (rw good, rw good (copied (take 6 (a .group .now)) (a .registers .now) (c .before .before .copy .last .1 .0) (omega arith) (c .before .before .copy .ensures .1)))
+    (rw good, rw good (c .before .before .copy-six .ensures ∙ over-full (take 6 (a .group .now)) (a .registers .now) (omega arith)))
 
 returns-2 : tie.Need-returns-2
 unfolding pick
@@ -44,10 +44,10 @@ take-group-spec =
     tie.close
     (tie.spec
     is-right-requires
-    sub-copy
-    part-copy-start
-    part-copy-end
-    copy-requires
+    sub-copy-six
+    part-copy-six-start
+    part-copy-six-end
+    copy-six-requires
     same-length
     returns
     returns-2)

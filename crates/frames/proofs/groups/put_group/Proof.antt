@@ -1,4 +1,4 @@
--- `frames::groups::put_group` fills the part with the bytes and their word: a copy and two stores. Assumes nothing.
+-- `frames::groups::put_group` fills the part with the bytes and their word: six bytes and two stores. Assumes nothing.
 use native.Mathlib.Omega.{arith}
 use borrow.Author.Needs.{needs}
 use lib.ListN.{length-set}
@@ -6,11 +6,11 @@ use Rattle.frames.proofs.GroupLaws.{group-put}
 use Rattle.frames.proofs.groups.put_group.Statement.{statement}
 use Rattle.frames.proofs.groups.put_group.Tie as tie
 
+copy-six-requires : tie.Need-copy-six-requires
+copy-six-requires c κs = search needs
+
 pec-by-requires : tie.Need-pec-by-requires
 pec-by-requires c κs = search needs
-
-copy-requires : tie.Need-copy-requires
-copy-requires c κs = search needs
 
 cast-part : tie.Need-cast-part
 cast-part c = search needs
@@ -21,9 +21,6 @@ slice-write-part c = search needs
 cast-part-2 : tie.Need-cast-part-2
 cast-part-2 c = search needs
 
-add-part : tie.Need-add-part
-add-part c = search needs
-
 slice-write-part-2 : tie.Need-slice-write-part-2
 slice-write-part-2 c = simp length-set (omega arith)
 
@@ -33,20 +30,19 @@ same-length c = search needs
 returns : tie.Need-returns
 returns c =
     let start = c .before .before .before .before .before .before .before in
-    let copied = c .before .before .copy in
-    group-put (start .args .bytes .now) (start .args .part .now) (copied .last .1 .0) (copied .result) (c .before .before .before .before .pec-by .result)
-    (start .pre .1) (copied .ensures .0) (copied .ensures .1) (c .before .before .before .before .pec-by .ensures)
+    let copied = c .before .before .before .copy-six in
+    let word = c .pec-by in
+    group-put (start .args .bytes .now) (start .args .part .now) (copied .last .1 .0) (word .result) (start .pre .1) (start .pre .2) (copied .ensures) (word .ensures)
 
 pub put-group-spec : {M : Type 1} → statement M
 put-group-spec =
     tie.close
     (tie.spec
+    copy-six-requires
     pec-by-requires
-    copy-requires
     cast-part
     slice-write-part
     cast-part-2
-    add-part
     slice-write-part-2
     same-length
     returns)

@@ -55,7 +55,7 @@ part-put-group-end-2 : tie.Need-part-put-group-end-2 Inv-loop μ-loop
 part-put-group-end-2 c = omega arith
 
 put-group-requires : tie.Need-put-group-requires Inv-loop μ-loop
-put-group-requires c κs = (c .before .before .before .before .before .before .pre .0, omega arith)
+put-group-requires c κs = (c .before .before .before .before .before .before .pre .0, omega arith, omega arith)
 
 add-at : tie.Need-add-at Inv-loop μ-loop
 add-at c = omega arith

@@ -16,26 +16,19 @@ use Rattle.frames.proofs.writer.put_frame.Tie as tie
 table-requires : tie.Need-table-requires
 table-requires c κs = search needs
 
-cast-t11 : tie.Need-cast-t11
-cast-t11 c = omega (arith, known-below (c .before .before .before .args .code) (λ e. omega arith))
+sub-put-command : tie.Need-sub-put-command
+sub-put-command c = search needs
 
-cast-t13 : tie.Need-cast-t13
-cast-t13 c = search needs
+part-put-command-start : tie.Need-part-put-command-start
+part-put-command-start c = search needs
 
-slice-aggregate-put-group : tie.Need-slice-aggregate-put-group
-slice-aggregate-put-group c = search needs
+part-put-command-end : tie.Need-part-put-command-end
+part-put-command-end c = omega (arith, length-least (c .before .before .before .before .args .n) (c .before .before .before .before .args .kind))
 
-sub-put-group : tie.Need-sub-put-group
-sub-put-group c = search needs
-
-part-put-group-start : tie.Need-part-put-group-start
-part-put-group-start c = search needs
-
-part-put-group-end : tie.Need-part-put-group-end
-part-put-group-end c = omega (arith, length-least (c .before .before .before .before .before .args .n) (c .before .before .before .before .before .args .kind))
-
-put-group-requires : tie.Need-put-group-requires
-put-group-requires c κs = search needs
+put-command-requires : tie.Need-put-command-requires
+put-command-requires c κs =
+    let a = c .before .before .before .before .before .args in
+    (c .before .before .table .ensures, omega (arith, known-below (a .code) (λ e. omega arith)), omega arith)
 
 mul-end : tie.Need-mul-end
 mul-end c = search needs
@@ -50,12 +43,12 @@ part-put-groups-start : tie.Need-part-put-groups-start
 part-put-groups-start c = search needs
 
 part-put-groups-end : tie.Need-part-put-groups-end
-part-put-groups-end c = omega (arith, length-long (c .before .before .before .before .before .before .before .before .before .before .before .args .n) (c .before .before .before .before .before .before .before .before .before .before .before .args .kind) (λ h. omega arith))
+part-put-groups-end c = omega (arith, length-long (c .before .before .before .before .before .before .before .before .before .before .args .n) (c .before .before .before .before .before .before .before .before .before .before .args .kind) (λ h. omega arith))
 
 put-groups-requires : tie.Need-put-groups-requires
 put-groups-requires c κs =
-    let a = c .before .before .before .before .before .before .before .before .before .before .before .before .args in
-    (c .before .before .before .before .before .before .before .before .before .table .ensures, omega arith, omega (arith, needs-data (a .n) (a .kind) (c .before .before .if1 .taken)), omega arith)
+    let a = c .before .before .before .before .before .before .before .before .before .before .before .args in
+    (c .before .before .before .before .before .before .before .before .table .ensures, omega arith, omega (arith, needs-data (a .n) (a .kind) (c .before .before .if1 .taken)), omega arith)
 
 sub-fill : tie.Need-sub-fill
 sub-fill c = search needs
@@ -64,7 +57,7 @@ part-fill-start : tie.Need-part-fill-start
 part-fill-start c = search needs
 
 part-fill-end : tie.Need-part-fill-end
-part-fill-end c = omega (arith, length-long (c .before .before .before .before .before .before .before .before .before .before .before .args .n) (c .before .before .before .before .before .before .before .before .before .before .before .args .kind) (λ h. omega arith))
+part-fill-end c = omega (arith, length-long (c .before .before .before .before .before .before .before .before .before .before .args .n) (c .before .before .before .before .before .before .before .before .before .before .args .kind) (λ h. omega arith))
 
 fill-requires : tie.Need-fill-requires
 fill-requires c κs = search needs
@@ -75,12 +68,12 @@ same-length c = search needs
 returns : tie.Need-returns
 unfolding twoBytes
 returns c =
-    let start = c .before .before .before .before .before .before .before .before .before .before .before .before .before .before .before in
+    let start = c .before .before .before .before .before .before .before .before .before .before .before .before .before .before in
     let a = start .args in
     let room = length-long (a .n) (a .kind) (λ h. omega arith) in
     let six = needs-data (a .n) (a .kind) (c .before .before .before .before .before .if1 .taken) in
     let put = c .before .before .put-groups in
-    frame-with (a .n) (a .code) (a .kind) (a .bytes .now) (a .out .now) (c .before .before .before .before .before .before .before .before .put-group .last .1 .1 .0) (start .pre .2) (c .before .before .before .before .before .before .before .before .put-group .ensures)
+    frame-with (a .n) (a .code) (a .kind) (a .bytes .now) (a .out .now) (c .before .before .before .before .before .before .before .before .put-command .last .1 .1 .0) (start .pre .2) (c .before .before .before .before .before .before .before .before .put-command .ensures)
     (put .last .1 .1 .1 .0)
     (body-write (a .n) (a .kind) (a .bytes .now) (c .before .before .before .before .before .if1 .taken) ∙ sym (put .ensures))
     (omega arith)
@@ -92,12 +85,12 @@ same-length-2 c = search needs
 returns-2 : tie.Need-returns-2
 unfolding twoBytes
 returns-2 c =
-    let start = c .before .before .before .before .before .before .before .before .before .before .before .before .before .before .before in
+    let start = c .before .before .before .before .before .before .before .before .before .before .before .before .before .before in
     let a = start .args in
     let room = length-long (a .n) (a .kind) (λ h. omega arith) in
-    let command = c .before .before .before .before .before .before .before .before .put-group .last .1 .1 .0 in
+    let command = c .before .before .before .before .before .before .before .before .put-command .last .1 .1 .0 in
     let clock = c .before .before .fill .last .0 in
-    frame-with (a .n) (a .code) (a .kind) (a .bytes .now) (a .out .now) command (start .pre .2) (c .before .before .before .before .before .before .before .before .put-group .ensures) clock
+    frame-with (a .n) (a .code) (a .kind) (a .bytes .now) (a .out .now) command (start .pre .2) (c .before .before .before .before .before .before .before .before .put-command .ensures) clock
     (body-read (a .n) (a .kind) (a .bytes .now) (c .before .before .before .before .if2 .taken)
     ∙ sym (filled clock 255 (length (take (4 + 8 * a .n - 4) (drop 4 (command ++ drop 4 (a .out .now))))) (8 * a .n) (c .before .before .fill .ensures) (omega arith)))
     (omega arith)
@@ -109,10 +102,10 @@ same-length-3 c = search needs
 returns-3 : tie.Need-returns-3
 unfolding twoBytes
 returns-3 c =
-    let start = c .before .before .before .before .before .before .before .before .before .before .before in
+    let start = c .before .before .before .before .before .before .before .before .before .before in
     let a = start .args in
     let kind = kind-below (a .code) in
-    frame-alone (a .n) (a .code) (a .kind) (a .bytes .now) (a .out .now) (c .before .before .before .before .put-group .last .1 .1 .0) (start .pre .2) (c .before .before .before .before .put-group .ensures)
+    frame-alone (a .n) (a .code) (a .kind) (a .bytes .now) (a .out .now) (c .before .before .before .before .put-command .last .1 .1 .0) (start .pre .2) (c .before .before .before .before .put-command .ensures)
     (omega arith)
 
 pub put-frame-spec : {M : Type 1} → statement M
@@ -120,13 +113,10 @@ put-frame-spec =
     tie.close
     (tie.spec
     table-requires
-    cast-t11
-    cast-t13
-    slice-aggregate-put-group
-    sub-put-group
-    part-put-group-start
-    part-put-group-end
-    put-group-requires
+    sub-put-command
+    part-put-command-start
+    part-put-command-end
+    put-command-requires
     mul-end
     add-end
     sub-put-groups

@@ -1,54 +1,42 @@
 -- `host::reader::read_group`: the mark, and by it the copied six bytes or zeros. Assumes nothing.
-use mathlib.Core.Path.{sym, _∙_}
-use mathlib.Core.List.{[], _∷_}
+use mathlib.Core.Path.{_≡_, sym, _∙_}
 use native.Mathlib.Omega.{arith}
 use borrow.Author.Needs.{needs}
-use lib.ListN.{length, getD}
-use Rattle.lent.proofs.Over.{filled, copied}
-use Rattle.host.proofs.MarkLaws.{first-six, bytes-read, bytes-none}
+use lib.ListN.{length, take}
+use lib.Seq.{length-take-le}
+use Rattle.lent.proofs.Over.{filled, over-full}
+use Rattle.host.proofs.MarkLaws.{bytes-read, bytes-none}
 use Rattle.host.proofs.reader.read_group.Statement.{statement}
 use Rattle.host.proofs.reader.read_group.Tie as tie
 
 mark-of-requires : tie.Need-mark-of-requires
 mark-of-requires c κs = search needs
 
-shared-slice-read-t8 : tie.Need-shared-slice-read-t8
-shared-slice-read-t8 c = search needs
+sub-copy-six : tie.Need-sub-copy-six
+sub-copy-six c = search needs
 
-shared-slice-read-t10 : tie.Need-shared-slice-read-t10
-shared-slice-read-t10 c = search needs
+part-copy-six-start : tie.Need-part-copy-six-start
+part-copy-six-start c = search needs
 
-shared-slice-read-t12 : tie.Need-shared-slice-read-t12
-shared-slice-read-t12 c = search needs
+part-copy-six-end : tie.Need-part-copy-six-end
+part-copy-six-end c = search needs
 
-shared-slice-read-t14 : tie.Need-shared-slice-read-t14
-shared-slice-read-t14 c = search needs
-
-shared-slice-read-t16 : tie.Need-shared-slice-read-t16
-shared-slice-read-t16 c = search needs
-
-shared-slice-read-t18 : tie.Need-shared-slice-read-t18
-shared-slice-read-t18 c = search needs
-
-slice-aggregate-copy : tie.Need-slice-aggregate-copy
-slice-aggregate-copy c = search needs
-
-copy-requires : tie.Need-copy-requires
-copy-requires c κs = search needs
+copy-six-requires : tie.Need-copy-six-requires
+copy-six-requires c κs = search needs
 
 same-length : tie.Need-same-length
 same-length c = search needs
 
 returns : tie.Need-returns
 returns c =
-    let start = c .before .before .before .before .before .before .before .before .before .before .before .before .before .before .before in
+    let start = c .before .before .before .before .before .before .before .before .before in
     let g = start .args .group .now in
-    let mark = c .before .before .before .before .before .before .before .before .before .before .before .before .mark-of in
-    let one-by-one = getD g 0 0 ∷ getD g 1 0 ∷ getD g 2 0 ∷ getD g 3 0 ∷ getD g 4 0 ∷ getD g 5 0 ∷ [] in (
+    let mark = c .before .before .before .before .before .before .mark-of in
+    let six : length (take 6 g) ≡ 6 = length-take-le 6 g (omega arith) in (
       mark .ensures,
-      copied one-by-one (start .args .part .now) (c .before .before .copy .last .1 .0) (start .pre .2) (c .before .before .copy .ensures .1)
-          ∙ first-six g (start .pre .1)
-          ∙ sym (bytes-read g (sym (mark .ensures) ∙ c .before .before .before .before .before .before .before .before .before .before .before .if1 .taken)),
+      c .before .before .copy-six .ensures
+          ∙ over-full (take 6 g) (start .args .part .now) (omega arith)
+          ∙ sym (bytes-read g (sym (mark .ensures) ∙ c .before .before .before .before .before .if1 .taken)),
     )
 
 fill-requires : tie.Need-fill-requires
@@ -72,14 +60,10 @@ read-group-spec =
     tie.close
     (tie.spec
     mark-of-requires
-    shared-slice-read-t8
-    shared-slice-read-t10
-    shared-slice-read-t12
-    shared-slice-read-t14
-    shared-slice-read-t16
-    shared-slice-read-t18
-    slice-aggregate-copy
-    copy-requires
+    sub-copy-six
+    part-copy-six-start
+    part-copy-six-end
+    copy-six-requires
     same-length
     returns
     fill-requires
