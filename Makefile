@@ -1,11 +1,13 @@
 # make run       a controller in C polls a chain over a noisy wire (ARGS='--noise wild'; ARGS=--help lists what there is)
 # make test      every test and every proof, from nothing; the last line is rt's 'N passed, M failed'
 # make lib       build/librig.a, the C entries of include/rig.h, from the proved crates
+# make dist      build/dist/rig.c and rig.h, the same entries as C99 for any processor, printed from the proved code
+# make test-arm  the tests of rig.c on 32-bit Arm, and its size and stack on a Cortex-M4
 # make install   header, archive and rig.pc for pkg-config under PREFIX (default /usr/local)
 # make bench     how long the entries take beside plain C and beside second/ (ARGS=cells: the rows with that in their name)
 # make fuzz      inputs to the C entries as long as one likes (FUZZ=-runs=N: N of them)
 # make fmt       lay out every Rattle, proof and Rust file
-.PHONY: run test lib install bench fuzz fmt need second header manual readme ctest example entries fuzz_some
+.PHONY: run test test-arm lib dist install bench fuzz fmt need second header against printed sanitized manual readme ctest example entries fuzz_some dist_alone FORCE
 
 PREFIX ?= /usr/local
 VERSION := 1.0.0
@@ -15,13 +17,25 @@ SECOND := build/bench/release/libsecond_c.a
 C99 := gcc -std=c99 -O2 $(CHECKED)
 SOURCES := crates.txt $(shell find $(addprefix crates/,lent pec frames chain host capi) -name '*.rt' -o -name '*.antt')
 
+# What the tests run against: a library, where they put what they build, what builds and links them, and how long they fuzz.
+LIB ?= $(ARCHIVE)
+OUT ?= build/archive
+TEST_CC ?= gcc -std=c99 -O2
+FUZZ_CC ?= clang -std=c99 -g -O1 -fsanitize=fuzzer,undefined -fno-sanitize-recover=undefined
+FUZZ_RUNS ?= 1000000
+
+# rig.c, and the ways it is built for the tests.
+RIG_C := build/rig.c
+BUILDS := gcc-O0 gcc-O2 gcc-O3 clang-O0 clang-O2 clang-O3
+SANITIZE := -fsanitize=address,undefined -fno-sanitize=function,vptr -fno-sanitize-recover=all
+
 run: build/controller
 	@build/controller $(ARGS)
 
 build/controller: $(wildcard examples/*.c examples/*.h) include/rig.h $(ARCHIVE)
 	@$(C99) $(filter %.c,$^) $(ARCHIVE) -o $@
 
-test: need second header manual readme ctest example entries fuzz_some
+test: need second header against printed sanitized dist_alone
 	@echo '== rt ci: prove every crate, try every must-fail edit, run every program'
 	@rt ci
 
@@ -37,11 +51,41 @@ $(ARCHIVE): $(SOURCES) | need
 	@cp target/staticlib/libcapi.a $@
 	@echo '== lib: $@ and include/rig.h are ready'
 
+# The proved MIR as C99. Every function that is printed is held to the MIR of its proved crate.
+$(RIG_C): $(SOURCES) include/rig.h tools/mir2c tools/declared.py $(wildcard tools/printer/*.py) build/revision | need
+	@echo '== rig.c: prove what is printed, and print it'
+	@rt check capi > build/check.log 2>&1 || { tail -40 build/check.log; exit 1; }
+	@rt mir capi > build/capi.mir 2> build/mir.log || { tail -40 build/mir.log; exit 1; }
+	@tools/mir2c build/capi.mir include/rig.h "$$(rt version)" "$$(cat build/revision)" target/rlib/*.rlib $(KIT_RLIBS) > $@.new
+	@mv $@.new $@
+
+KIT_RLIBS = $(wildcard $(patsubst %/docs/,%,$(dir $(shell rt doc)))/on/$(shell uname -m)/rlib/*.rlib)
+
+build/revision: FORCE
+	@mkdir -p build
+	@git describe --always --abbrev=40 --dirty=', with changes' > $@.new 2> /dev/null || echo 'not known' > $@.new
+	@if cmp -s $@.new $@; then rm $@.new; else mv $@.new $@; fi
+
+dist: $(RIG_C)
+	@mkdir -p build/dist
+	@cp $(RIG_C) include/rig.h build/dist
+	@echo '== dist: build/dist/rig.c and rig.h are all that a project needs'
+
+build/c/%/librig.a: $(RIG_C)
+	@mkdir -p $(@D)
+	@$(firstword $(subst -, ,$*)) -std=c99 -$(lastword $(subst -, ,$*)) $(CHECKED) -Wconversion -c $(RIG_C) -o $(@D)/rig.o
+	@rm -f $@ && ar rcs $@ $(@D)/rig.o
+
+build/c/sanitized/librig.a: $(RIG_C)
+	@mkdir -p $(@D)
+	@clang -std=c99 -g -O1 $(SANITIZE) $(CHECKED) -Wconversion -c $(RIG_C) -o $(@D)/rig.o
+	@rm -f $@ && ar rcs $@ $(@D)/rig.o
+
 install:
-	@test -f $(ARCHIVE) || { echo 'install: there is no $(ARCHIVE): run make lib first' >&2; exit 1; }
+	@test -f $(LIB) || { echo 'install: there is no $(LIB): run make lib first' >&2; exit 1; }
 	install -d '$(DESTDIR)$(PREFIX)/include' '$(DESTDIR)$(PREFIX)/lib/pkgconfig'
 	install -m 644 include/rig.h '$(DESTDIR)$(PREFIX)/include/rig.h'
-	install -m 644 $(ARCHIVE) '$(DESTDIR)$(PREFIX)/lib/librig.a'
+	install -m 644 $(LIB) '$(DESTDIR)$(PREFIX)/lib/librig.a'
 	sed -e 's|@PREFIX@|$(abspath $(PREFIX))|' -e 's|@VERSION@|$(VERSION)|' tools/rig.pc.in > build/rig.pc
 	install -m 644 build/rig.pc '$(DESTDIR)$(PREFIX)/lib/pkgconfig/rig.pc'
 
@@ -52,41 +96,84 @@ header: $(ARCHIVE)
 	@for std in c++98 c++11 c++17; do clang++ -std=$$std $(CHECKED) -x c++ -fsyntax-only include/rig.h || exit 1; done
 	@tools/header include/rig.h $(ARCHIVE)
 
+# Every test of a library: the archive, or a build of rig.c.
+against: manual readme ctest example entries fuzz_some
+
+# rig.c with no warning in C99 and C11, the same bytes when it is printed again, and every test against each of its builds.
+printed: $(RIG_C)
+	@echo '== rig.c: no warning as C99 and C11, nothing found by cppcheck, the same bytes when printed again'
+	@for cc in gcc clang; do for std in c99 c11; do $$cc -std=$$std -O2 $(CHECKED) -Wconversion -c $(RIG_C) -o build/c.o || exit 1; done; done
+	@cppcheck --quiet --std=c99 --enable=warning,portability,performance --error-exitcode=1 --suppress=missingIncludeSystem -Iinclude $(RIG_C)
+	@tests/mir2c build/capi.mir include/rig.h target/rlib/*.rlib $(KIT_RLIBS)
+	@rt mir capi 2> build/mir.log | cmp - build/capi.mir
+	@for build in $(BUILDS); do \
+	    echo "== rig.c built by $$build: every test" && \
+	    $(MAKE) --no-print-directory --silent build/c/$$build/librig.a && \
+	    $(MAKE) --no-print-directory --silent against LIB=build/c/$$build/librig.a OUT=build/c/$$build FUZZ_RUNS=200000 > build/c/$$build/log 2>&1 || \
+	    { tail -40 build/c/$$build/log; exit 1; }; \
+	    grep -h -e 'checks, 0 failed' -e 'none failed' -e 'test result' build/c/$$build/log; \
+	done
+
+sanitized: build/c/sanitized/librig.a
+	@echo '== rig.c under the address and undefined-behaviour sanitizers of clang: every test'
+	@$(MAKE) --no-print-directory --silent against LIB=$< OUT=$(<D) FUZZ_RUNS=200000 NO_STACK=--no-stack \
+	    TEST_CC='clang -std=c99 -O1 $(SANITIZE)' FUZZ_CC='clang -std=c99 -g -O1 -fsanitize=fuzzer $(SANITIZE)' \
+	    RUSTFLAGS='-Clinker=clang -Clink-arg=-fsanitize=address,undefined' CARGO_TARGET_DIR=build/sanitized > $(<D)/log 2>&1 || { tail -40 $(<D)/log; exit 1; }
+	@grep -h -e 'checks, 0 failed' -e 'none failed' -e 'test result' $(<D)/log
+
+# What make dist writes is enough: the example of README.md and the controller are built of it and of nothing else.
+dist_alone: dist readme
+	@echo '== dist: the example of README.md and the controller, built from rig.c and rig.h alone'
+	@gcc -std=c99 -Wall -Wextra -Wpedantic -Werror -Ibuild/dist build/readme.c build/dist/rig.c -o build/dist/readme
+	@build/dist/readme | diff -u build/readme.said -
+	@gcc -std=c99 -O2 -Wall -Wextra -Wpedantic -Werror -Ibuild/dist examples/*.c build/dist/rig.c -o build/dist/controller
+	@build/dist/controller --polls 200 --seed 7 > build/dist/controller.log 2>&1 || { cat build/dist/controller.log; exit 1; }
+
+test-arm: $(RIG_C) build/readme.c
+	@tests/arm $(RIG_C)
+
 # The examples of rig.h, built on an installed library as a user would.
-manual: $(ARCHIVE)
+manual: $(LIB)
 	@echo '== manual: the examples of rig.h run as they stand, as C and as C++, on an installed library'
-	@$(MAKE) --no-print-directory --silent install PREFIX=build/prefix DESTDIR=
+	@mkdir -p $(OUT)
+	@$(MAKE) --no-print-directory --silent install PREFIX=$(OUT)/prefix DESTDIR=
 	@sed -n 's/^ \*     \([^ ].*\)$$/\1/p' include/rig.h > build/manual.inc
-	@gcc -std=c99 -Wall -Wextra -Werror -Ibuild -Ibuild/prefix/include tests/manual.c -Lbuild/prefix/lib -lrig -o build/manual
-	@build/manual
-	@clang -x c++ -std=c++11 -Wall -Wextra -Werror -Ibuild -Ibuild/prefix/include tests/manual.c -x none -Lbuild/prefix/lib -lrig -o build/manual_cpp
-	@build/manual_cpp
+	@$(TEST_CC) -Wall -Wextra -Werror -Ibuild -I$(OUT)/prefix/include tests/manual.c -L$(OUT)/prefix/lib -lrig -o $(OUT)/manual
+	@$(OUT)/manual
+	@clang -x c++ -std=c++11 $(filter -f%,$(TEST_CC)) -Wall -Wextra -Werror -Ibuild -I$(OUT)/prefix/include tests/manual.c -x none -L$(OUT)/prefix/lib -lrig -o $(OUT)/manual_cpp
+	@$(OUT)/manual_cpp
 
 # The example of README.md prints what README.md says.
-readme: manual
-	@echo '== readme: the example of README.md runs as it stands'
-	@sed -n '/^```c$$/,/^```$$/p' README.md | sed '/^```/d' > build/readme.c
+build/readme.c: README.md
+	@mkdir -p build
+	@sed -n '/^```c$$/,/^```$$/p' README.md | sed '/^```/d' > $@
 	@sed -n '/^```text$$/,/^```$$/p' README.md | sed '/^```/d' > build/readme.said
-	@gcc -std=c99 -Wall -Wextra -Wpedantic -Werror -Ibuild/prefix/include build/readme.c -Lbuild/prefix/lib -lrig -o build/readme
-	@build/readme > build/readme.prints
-	@diff -u build/readme.said build/readme.prints
+
+readme: manual build/readme.c
+	@echo '== readme: the example of README.md runs as it stands'
+	@$(TEST_CC) -Wall -Wextra -Wpedantic -Werror -I$(OUT)/prefix/include build/readme.c -L$(OUT)/prefix/lib -lrig -o $(OUT)/readme
+	@$(OUT)/readme > $(OUT)/readme.prints
+	@diff -u build/readme.said $(OUT)/readme.prints
 
 # The controller holds each poll to the promise itself, and says by its status that it was kept; bad arguments have status 2.
-example: build/controller
+example: $(LIB)
 	@echo '== example: the controller over noise that the promise allows, over wild noise, and with bad arguments'
-	@build/controller --polls 2000 --seed 7 > build/controller.log 2>&1 || { cat build/controller.log; exit 1; }
-	@sed -n -e '/^Alarms/p' -e '/^Checked/p' build/controller.log
-	@build/controller --polls 50 --noise wild > build/controller.log 2>&1; test $$? -le 1
-	@build/controller --devices 17 2> build/controller.log; test $$? -eq 2
+	@mkdir -p $(OUT)
+	@$(TEST_CC) $(CHECKED) examples/*.c $(LIB) -o $(OUT)/controller
+	@$(OUT)/controller --polls 2000 --seed 7 > $(OUT)/controller.log 2>&1 || { cat $(OUT)/controller.log; exit 1; }
+	@sed -n -e '/^Alarms/p' -e '/^Checked/p' $(OUT)/controller.log
+	@$(OUT)/controller --polls 50 --noise wild > $(OUT)/controller.log 2>&1; test $$? -le 1
+	@$(OUT)/controller --devices 17 2> $(OUT)/controller.log; test $$? -eq 2
 
-# The archive called from C, by both compilers; the stack that each entry uses is printed.
-ctest: $(ARCHIVE)
-	@echo '== ctest: every entry called from C, built by gcc -O2 and by clang -O0'
-	@gcc -std=c99 -O2 -Wconversion $(CHECKED) tests/rig_test.c tests/plain.c tests/stack.c $(ARCHIVE) -o build/rig_test
-	@build/rig_test
-	@clang -std=c99 -O0 -Wconversion $(CHECKED) tests/rig_test.c tests/plain.c tests/stack.c $(ARCHIVE) -o build/rig_test_clang
-	@build/rig_test_clang > build/rig_test_clang.log || { cat build/rig_test_clang.log; exit 1; }
-	@tail -1 build/rig_test_clang.log
+# The library called from C, by both compilers; the stack that each entry uses is printed.
+ctest: $(LIB)
+	@echo '== ctest: every entry called from C, by clang -O0 too'
+	@mkdir -p $(OUT)
+	@$(TEST_CC) -Wconversion $(CHECKED) tests/rig_test.c tests/plain.c tests/stack.c $(LIB) -o $(OUT)/rig_test
+	@$(OUT)/rig_test $(NO_STACK)
+	@clang -std=c99 -O0 $(filter -f%,$(TEST_CC)) -Wconversion $(CHECKED) tests/rig_test.c tests/plain.c tests/stack.c $(LIB) -o $(OUT)/rig_test_clang
+	@$(OUT)/rig_test_clang $(NO_STACK) > $(OUT)/rig_test_clang.log || { cat $(OUT)/rig_test_clang.log; exit 1; }
+	@tail -1 $(OUT)/rig_test_clang.log
 	@cppcheck --quiet --std=c99 --enable=warning,portability,performance --error-exitcode=1 --suppress=missingIncludeSystem -Iinclude tests
 
 # The second implementation: its own tests, and the vectors' answers as it derives them.
@@ -99,30 +186,36 @@ second: need
 	    diff -u crates/$$program/stdout second/target/$$program.stdout || exit 1; \
 	done
 
-# The archive beside the second implementation. RIG_SEED=.. repeats a run of random cases, RIG_CASES=.. says how many.
-entries: $(ARCHIVE)
+# The library beside the second implementation. RIG_SEED=.. repeats a run of random cases, RIG_CASES=.. says how many.
+entries: $(LIB)
 	@echo '== entries: every C entry beside the second implementation'
-	@RIG_LIB='$(CURDIR)/$(ARCHIVE)' cargo test --offline --quiet --release --manifest-path second/Cargo.toml --test entries -- --nocapture
+	@RIG_LIB='$(abspath $(LIB))' cargo test --offline --quiet --release --manifest-path second/Cargo.toml --test entries -- --nocapture
 
 # Lent buffers stand flush against inaccessible pages: one byte outside traps.
-build/fuzz: tests/fuzz.c tests/plain.c tests/plain.h include/rig.h $(ARCHIVE) $(SECOND)
-	@clang -std=c99 -g -O1 -fsanitize=fuzzer,undefined -fno-sanitize-recover=undefined $(CHECKED) tests/fuzz.c tests/plain.c $(ARCHIVE) $(SECOND) -o $@
+$(OUT)/fuzz: tests/fuzz.c tests/plain.c tests/plain.h include/rig.h $(LIB) $(SECOND)
+	@mkdir -p $(OUT)
+	@$(FUZZ_CC) $(CHECKED) tests/fuzz.c tests/plain.c $(LIB) $(SECOND) -o $@
 
-fuzz_some: build/fuzz
-	@echo '== fuzz: 1,000,000 inputs to the C entries, lent buffers against inaccessible pages'
-	@build/fuzz -runs=1000000 -max_len=2200 -print_final_stats=1 -artifact_prefix=build/ > build/fuzz.log 2>&1 || { tail -40 build/fuzz.log; exit 1; }
-	@sed -n -e 's/^INFO: Seed: /fuzz: seed /p' -e 's/^stat::number_of_executed_units: */fuzz: inputs run, none failed: /p' build/fuzz.log
+fuzz_some: $(OUT)/fuzz
+	@echo '== fuzz: $(FUZZ_RUNS) inputs to the C entries, lent buffers against inaccessible pages'
+	@$(OUT)/fuzz -runs=$(FUZZ_RUNS) -max_len=2200 -print_final_stats=1 -artifact_prefix=$(OUT)/ > $(OUT)/fuzz.log 2>&1 || { tail -40 $(OUT)/fuzz.log; exit 1; }
+	@sed -n -e 's/^INFO: Seed: /fuzz: seed /p' -e 's/^stat::number_of_executed_units: */fuzz: inputs run, none failed: /p' $(OUT)/fuzz.log
 
-fuzz: build/fuzz
-	@echo '== fuzz: end it with ctrl-C; an input that fails is left in build/'
-	@mkdir -p build/corpus
-	@build/fuzz -max_len=2200 -artifact_prefix=build/ $(FUZZ) build/corpus
+fuzz: $(OUT)/fuzz
+	@echo '== fuzz: end it with ctrl-C; an input that fails is left in $(OUT)'
+	@mkdir -p $(OUT)/corpus
+	@$(OUT)/fuzz -max_len=2200 -artifact_prefix=$(OUT)/ $(FUZZ) $(OUT)/corpus
 
 bench: build/bench/bench
 	@build/bench/bench $(ARGS)
+	@bench/count build/bench/bench $(ARGS)
 
-build/bench/bench: $(wildcard bench/*.c bench/*.h) bench/second/second.h include/rig.h $(ARCHIVE) $(SECOND)
-	@$(C99) $(filter %.c,$^) $(ARCHIVE) $(SECOND) -o $@
+build/bench/bench: $(wildcard bench/*.c bench/*.h) bench/second/second.h include/rig.h $(ARCHIVE) build/bench/printed.o $(SECOND)
+	@$(C99) $(filter bench/%.c,$^) build/bench/printed.o $(ARCHIVE) $(SECOND) -o $@
+
+build/bench/printed.o: $(RIG_C) bench/renamed.h
+	@mkdir -p $(@D)
+	@$(C99) -include bench/renamed.h -c $(RIG_C) -o $@
 
 $(SECOND): $(wildcard bench/second/Cargo.* bench/second/src/*.rs second/Cargo.* second/src/*.rs)
 	@echo '== second/ as a C library, to be held beside the archive'

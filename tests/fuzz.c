@@ -1,12 +1,16 @@
 /* fuzz.c: a libFuzzer target over the C entries. The archive is not instrumented, so each lent buffer stands flush against
  * an inaccessible page, first at its end, then at its start: one byte read or written outside it traps. Every answer and all
- * exit contents are held to the plain ones, and those of check word, writer, chain and reader to second/. The fuzzer's bytes choose the entry, sizes, lengths, contents and damage.
+ * exit contents are held to the plain ones, and those of check word, writer, chain and reader to second/ (with
+ * -DNO_SECOND not, for a target that Rust is not built for). The fuzzer's bytes choose the entry, sizes, lengths, contents
+ * and damage.
  *
  *     make fuzz                as long as one likes
  *     make fuzz FUZZ=-runs=N   N inputs
  */
 #define _DEFAULT_SOURCE
+#ifndef NO_SECOND
 #include "../bench/second/second.h"
+#endif
 #include "plain.h"
 
 #include <stdio.h>
@@ -120,14 +124,16 @@ static void fuzz_pec(struct input *in) {
     static uint8_t bytes[ROOM];
     size_t length = in->left < ROOM ? in->left : ROOM;
     next_bytes(in, bytes, length);
+#ifndef NO_SECOND
     hold(second_pec(bytes, length) == plain_word(bytes, length), "second/ has another check word");
+#endif
     for (enum side side = AT_END; side < SIDES; side++) {
         hold(rig_pec(lend(0, side, bytes, length), length) == plain_word(bytes, length), "the check word is another");
     }
 }
 
 static void fuzz_write(struct input *in) {
-    uint8_t data[256], out[256], then[256], by_second[256];
+    uint8_t data[256], out[256], then[256];
     uint32_t n = next_size(in), code = next_code(in);
     const struct command *command = command_of(code);
     int writes = command != NULL && command->kind == WRITES;
@@ -138,9 +144,12 @@ static void fuzz_write(struct input *in) {
     memset(out, next(in), sizeof out);
     memcpy(then, out, sizeof out);
     size_t length = number == RIG_DONE ? plain_frame(n, command, data, then) : 0;
+#ifndef NO_SECOND
+    uint8_t by_second[256];
     memcpy(by_second, out, sizeof out);
     struct rig_written second = second_write(n, code, data, data_len, by_second, out_len);
     hold(second.number == number && second.length == length && has(by_second, then, out_len), "second/ writes otherwise");
+#endif
     for (enum side side = AT_END; side < SIDES; side++) {
         uint8_t *from = lend(0, side, data, data_len), *to = lend(1, side, out, out_len);
         struct rig_written got = rig_write(n, code, from, data_len, to, out_len);
@@ -176,7 +185,7 @@ static size_t next_frame(struct input *in, uint32_t n, uint8_t *frame) {
 }
 
 static void fuzz_chain(struct input *in) {
-    static uint8_t frame[256], state[ROOM], reply[256], state_then[ROOM], reply_then[256], state_by_second[ROOM], reply_by_second[256];
+    static uint8_t frame[256], state[ROOM], reply[256], state_then[ROOM], reply_then[256];
     uint32_t n = next_size(in);
     size_t frame_len = next_frame(in, n, frame);
     size_t state_len = next_length(in, RIG_STATE_BYTES(devices(n))), reply_len = next_length(in, frame_len);
@@ -192,11 +201,14 @@ static void fuzz_chain(struct input *in) {
     if (number == RIG_DONE) {
         word = plain_obey(n, command_of((uint32_t)frame[0] << 8 | frame[1]), frame, state_then, reply_then);
     }
+#ifndef NO_SECOND
+    static uint8_t state_by_second[ROOM], reply_by_second[256];
     memcpy(state_by_second, state, state_len);
     memcpy(reply_by_second, reply, sizeof reply);
     struct rig_heard second = second_chain(n, frame, frame_len, state_by_second, state_len, reply_by_second, reply_len);
     hold(second.number == number && second.word == word, "second/ hears otherwise");
     hold(has(state_by_second, state_then, state_len) && has(reply_by_second, reply_then, reply_len), "second/ answers otherwise");
+#endif
     for (enum side side = AT_END; side < SIDES; side++) {
         uint8_t *from = lend(0, side, frame, frame_len), *held = lend(1, side, state, state_len), *to = lend(2, side, reply, reply_len);
         struct rig_heard got = rig_chain(n, from, frame_len, held, state_len, to, reply_len);
@@ -223,7 +235,7 @@ static void next_reply(struct input *in, uint8_t *reply, size_t length) {
 }
 
 static void fuzz_read(struct input *in) {
-    uint8_t reply[256] = {0}, data[256], marks[128], data_then[256], marks_then[128], data_by_second[256], marks_by_second[128];
+    uint8_t reply[256] = {0}, data[256], marks[128], data_then[256], marks_then[128];
     uint32_t n = next_size(in), code = next_code(in);
     size_t reply_len = next_length(in, RIG_FRAME_BYTES(devices(n)));
     size_t data_len = next_length(in, RIG_DATA_BYTES(devices(n))), marks_len = next_length(in, devices(n));
@@ -240,10 +252,13 @@ static void fuzz_read(struct input *in) {
             memcpy(data_then + 6 * k, reply + 4 + 8 * k, 6);
         }
     }
+#ifndef NO_SECOND
+    uint8_t data_by_second[256], marks_by_second[128];
     memcpy(data_by_second, data, sizeof data);
     memcpy(marks_by_second, marks, sizeof marks);
     hold(second_read(n, code, reply, reply_len, data_by_second, data_len, marks_by_second, marks_len) == number, "second/ reads otherwise");
     hold(has(data_by_second, data_then, data_len) && has(marks_by_second, marks_then, marks_len), "second/ hands out otherwise");
+#endif
     for (enum side side = AT_END; side < SIDES; side++) {
         uint8_t *from = lend(0, side, reply, reply_len), *to = lend(1, side, data, data_len), *sorts = lend(2, side, marks, marks_len);
         hold(rig_read(n, code, from, reply_len, to, data_len, sorts, marks_len) == number, "the reader's number is another");

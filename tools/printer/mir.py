@@ -1,0 +1,113 @@
+"""The MIR that `rt mir` prints, read into nested lists, and the forms of it that there are rules for.
+
+A form is a word with its arguments: `(place 3 lnil)` is ["place", 3, "lnil"], a name stays in its quotes.
+"""
+import re
+
+ARGUMENTS = {
+    0: "skip return true false unit tyBool tyPtr tyUnit lnil tnil imm mut erased unsigned valueLocal memorySlot"
+    " and or xor not eq ne shl offset",
+    1: "tyInt tyNamed lenLit named deref field copy add sub mul div rem shr lt le rvOpd addrOf aggregate block loop exit"
+    " direct fnRef fields",
+    2: "lcons tcons local tyArray tyStruct pair place int op1 repeat seq assign",
+    3: "tyRef cast op2 if call",
+    5: "fnItem",
+}
+KNOWN = {word: count for count, words in ARGUMENTS.items() for word in words.split()}
+
+
+class Refused(Exception):
+    """Something that the printer does not print."""
+
+
+class NoRule(Refused):
+    """A form of the MIR, or a use of it, that the printer has no rule for."""
+
+    def __init__(self, what, form=""):
+        super().__init__(f"no rule for {what} {str(form)[:200]}".rstrip())
+
+
+def read(text):
+    stack = [[]]
+    for token in re.findall(r'"[^"]*"|[()]|[^\s()"]+', text):
+        if token == "(":
+            stack.append([])
+        elif token == ")":
+            done = stack.pop()
+            stack[-1].append(done)
+        else:
+            stack[-1].append(int(token) if token.isdigit() else token)
+    if len(stack) != 1:
+        raise NoRule("text whose brackets do not close")
+    return stack[0]
+
+
+def head(form):
+    return form if isinstance(form, str) else form[0]
+
+
+def items(form):
+    """A list of the MIR as a list."""
+    out = []
+    while head(form) in ("lcons", "tcons"):
+        out.append(form[1])
+        form = form[2]
+    if form not in ("lnil", "tnil"):
+        raise NoRule("a list that ends in", form)
+    return out
+
+
+def chain(forms, cons="lcons", nil="lnil"):
+    """A list as a list of the MIR."""
+    for form in reversed(forms):
+        nil = [cons, form, nil]
+    return nil
+
+
+def statements(body):
+    """A body as a list of statements."""
+    if head(body) == "seq":
+        return statements(body[1]) + statements(body[2])
+    return [] if body == "skip" else [body]
+
+
+def simple(body):
+    """Every statement of a body with no statement in it, and the tests of its ifs."""
+    for form in statements(body):
+        if head(form) in ("block", "loop"):
+            yield from simple(form[1])
+            continue
+        yield form
+        if head(form) == "if":
+            yield from simple(form[2])
+            yield from simple(form[3])
+
+
+def check(form):
+    """Refuse what is no known word with its count of arguments."""
+    if isinstance(form, int) or (isinstance(form, str) and form.startswith('"')):
+        return
+    word, arguments = (form, []) if isinstance(form, str) else (form[0], form[1:])
+    if not isinstance(word, str) or KNOWN.get(word) != len(arguments):
+        raise NoRule(f"the form '{word}' with {len(arguments)} arguments", form)
+    if word == "int" and arguments[1] >= 2 ** arguments[0]:
+        raise NoRule("a constant that does not fit", form)
+    for argument in arguments:
+        check(argument)
+
+
+def program(text):
+    """Functions and records of a printed MIR: {name: fnItem}, {name: its fields' types}."""
+    forms = read(text)
+    if forms[:1] != ["program"]:
+        raise NoRule("text that is no program")
+    functions, records = {}, {}
+    for form in items(forms[1]):
+        if head(form) != "fn-def" or head(form[2]) != "fnItem" or form[1] in functions:
+            raise NoRule("the definition", form)
+        functions[form[1].strip('"')] = form[2]
+        for row in items(form[3]) if len(form) > 3 else []:
+            check(row)
+            if records.setdefault(row[1], row[2]) != row[2]:
+                raise NoRule("two meanings of", row[1])
+    return functions, {name.strip('"'): items(shape[1]) for name, shape in records.items()}
