@@ -1,8 +1,15 @@
-/* The benchmark: how long each entry of the archive takes beside the same algorithm in plain C (plain.c) and beside the second
-   implementation, in one process, on the same inputs. What counts are the ratios: nanoseconds are this machine's. */
+/* The benchmark: how long each entry of the archive and of rig.c takes beside the same algorithm in plain C (plain.c), and the
+   archive beside the second implementation, in one process, on the same inputs. What counts are the ratios: nanoseconds are this
+   machine's.
+
+       bench            time every row
+       bench WORD       time the rows with WORD in their name
+       bench --rows     print the names of the rows
+       bench --run MAKER ROW   SETS calls of one maker (printed, plain) and nothing else, for bench/count */
 #define _POSIX_C_SOURCE 199309L
 
 #include "plain.h"
+#include "printed.h"
 #include "rig.h"
 #include "second/second.h"
 
@@ -11,7 +18,7 @@
 #include <string.h>
 #include <time.h>
 
-enum { RUNS = 15, MAKERS = 3, SETS = 64, LONG_WORD = 65536 };
+enum { RUNS = 15, MAKERS = 4, SETS = 64, LONG_WORD = 65536 };
 
 static const double SHORTEST_RUN = 5e-3; /* seconds */
 
@@ -25,9 +32,12 @@ struct maker {
     uint8_t (*tally_add)(struct rig_tally *, const uint8_t *, size_t);
 };
 
+enum { ARCHIVE, PRINTED, PLAIN, SECOND };
+
 static const struct maker makers[MAKERS] = {
-    {"the archive", rig_pec, rig_write, rig_chain, rig_read, rig_cells, rig_tally_add},
-    {"plain C", plain_pec, plain_write, plain_chain, plain_read, plain_cells, plain_tally_add},
+    {"archive", rig_pec, rig_write, rig_chain, rig_read, rig_cells, rig_tally_add},
+    {"printed", printed_pec, printed_write, printed_chain, printed_read, printed_cells, printed_tally_add},
+    {"plain", plain_pec, plain_write, plain_chain, plain_read, plain_cells, plain_tally_add},
     {"second", second_pec, second_write, second_chain, second_read, second_cells, second_tally_add},
 };
 
@@ -108,16 +118,25 @@ static const struct row {
     const char *name;
     turn_fn *turn;
     uint32_t n;
-    double goal; /* the largest ratio to plain C that we want; 0 where none is set */
+    double goal, printed_goal; /* the largest ratio to plain C that we want of the archive and of rig.c; 0 where none is set */
 } rows[] = {
-    {"check word of 2 bytes", turn_pec, 2, 1.5},        {"check word of 6 bytes", turn_pec, 6, 1.5},
-    {"check word of 64 KiB", turn_pec, LONG_WORD, 1.1}, {"write, N = 1", turn_write, 1, 0},
-    {"write, N = 16", turn_write, 16, 1.1},             {"chain write, N = 1", turn_chain_write, 1, 0},
-    {"chain write, N = 16", turn_chain_write, 16, 1.1}, {"chain read, N = 1", turn_chain_read, 1, 0},
-    {"chain read, N = 16", turn_chain_read, 16, 1.1},   {"read, N = 1", turn_read, 1, 0},
-    {"read, N = 16", turn_read, 16, 1.1},               {"cells of one device", turn_cells, 1, 1.1},
-    {"tally, N = 1", turn_tally, 1, 0},                 {"tally, N = 16", turn_tally, 16, 1.1},
+    {"check word of 2 bytes", turn_pec, 2, 1.5, 0},
+    {"check word of 6 bytes", turn_pec, 6, 1.5, 0},
+    {"check word of 64 KiB", turn_pec, LONG_WORD, 1.1, 0},
+    {"write, N = 1", turn_write, 1, 0, 0},
+    {"write, N = 16", turn_write, 16, 1.1, 1.05},
+    {"chain write, N = 1", turn_chain_write, 1, 0, 0},
+    {"chain write, N = 16", turn_chain_write, 16, 1.1, 1.05},
+    {"chain read, N = 1", turn_chain_read, 1, 0, 0},
+    {"chain read, N = 16", turn_chain_read, 16, 1.1, 1.05},
+    {"read, N = 1", turn_read, 1, 0, 0},
+    {"read, N = 16", turn_read, 16, 1.1, 1.05},
+    {"cells of one device", turn_cells, 1, 1.1, 0},
+    {"tally, N = 1", turn_tally, 1, 0, 0},
+    {"tally, N = 16", turn_tally, 16, 1.1, 0},
 };
+
+enum { ROWS = sizeof rows / sizeof *rows };
 
 static uint32_t random_byte(void)
 {
@@ -184,8 +203,8 @@ static void assert_same(const struct row *row)
             if (m == 0) {
                 ours = work;
             } else if (!same_work(&ours, &work)) {
-                fprintf(stderr, "bench: %s: the archive and %s differ after %zu calls; one of them is wrong, so nothing is timed\n",
-                        row->name, makers[m].name, turns);
+                fprintf(stderr, "bench: %s: %s and %s differ after %zu calls; one of them is wrong, so nothing is timed\n",
+                        row->name, makers[0].name, makers[m].name, turns);
                 exit(1);
             }
         }
@@ -235,10 +254,20 @@ static double median(double *values, size_t count)
     return values[count / 2];
 }
 
+/* A ratio, the goal that it has and whether it is met; whether it is missed. */
+static int show_ratio(double ratio, double goal)
+{
+    if (goal > 0)
+        printf(" %10.2f  %4.2f %-6s", ratio, goal, ratio <= goal ? "met" : "MISSED");
+    else
+        printf(" %10.2f  %4s %-6s", ratio, "-", "");
+    return goal > 0 && ratio > goal;
+}
+
 /* A round runs every maker once, each round beginning with the next one; a ratio is taken within its round. */
 static int bench(const struct row *row)
 {
-    double nanoseconds[RUNS], to_plain[RUNS], to_second[RUNS], took[MAKERS];
+    double nanoseconds[RUNS], archive[RUNS], printed[RUNS], second[RUNS], took[MAKERS];
 
     assert_same(row);
     make_frames(devices_of(row));
@@ -246,41 +275,68 @@ static int bench(const struct row *row)
     for (size_t run = 0; run < RUNS; run++) {
         for (size_t m = 0; m < MAKERS; m++)
             took[(run + m) % MAKERS] = time_run(row, &makers[(run + m) % MAKERS], turns);
-        nanoseconds[run] = 1e9 * took[0] / (double)turns;
-        to_plain[run] = took[0] / took[1];
-        to_second[run] = took[0] / took[2];
+        nanoseconds[run] = 1e9 * took[ARCHIVE] / (double)turns;
+        archive[run] = took[ARCHIVE] / took[PLAIN];
+        printed[run] = took[PRINTED] / took[PLAIN];
+        second[run] = took[ARCHIVE] / took[SECOND];
     }
-    double ratio = median(to_plain, RUNS);
-    printf("%-24s %10.1f %12.2f", row->name, median(nanoseconds, RUNS), ratio);
-    if (row->goal > 0)
-        printf("   %4.1f  %-6s", row->goal, ratio <= row->goal ? "met" : "MISSED");
-    else
-        printf("      -  %-6s", "");
-    printf(" %12.2f\n", median(to_second, RUNS));
+    printf("%-22s %9.1f", row->name, median(nanoseconds, RUNS));
+    int missed = show_ratio(median(archive, RUNS), row->goal);
+    missed += show_ratio(median(printed, RUNS), row->printed_goal);
+    printf(" %9.2f\n", median(second, RUNS));
     fflush(stdout);
-    return row->goal > 0 && ratio > row->goal;
+    return missed;
 }
 
-int main(int words, char **word)
+/* SETS calls of one row by one maker, for a tool that counts instructions. */
+static int run_one(const char *maker, const char *row)
 {
-    size_t count = sizeof rows / sizeof *rows;
+    for (size_t m = 0; m < MAKERS; m++)
+        for (size_t i = 0; i < ROWS; i++)
+            if (!strcmp(makers[m].name, maker) && !strcmp(rows[i].name, row)) {
+                make_frames(devices_of(&rows[i]));
+                rows[i].turn(&makers[m], rows[i].n, SETS);
+                return 0;
+            }
+    fprintf(stderr, "bench: there is no maker '%s' or no row '%s'; bench --rows prints the rows\n", maker, row);
+    return 2;
+}
+
+static int show_rows(void)
+{
+    for (size_t i = 0; i < ROWS; i++)
+        puts(rows[i].name);
+    return 0;
+}
+
+static int time_rows(const char *word)
+{
     int missed = 0, timed = 0;
 
-    printf("Time of a call of the archive, and its ratio to the same work in plain C (gcc -O2, table of 256) and in second/ (Rust,\n"
-           "release, bit by bit): under 1 the archive is faster. Medians of %d alternating runs in one process, each of at least %.0f ms\n"
-           "of processor time; the same inputs for all, buffers not cleared before a call. First it is checked that all three agree.\n\n",
+    printf("Time of a call of the archive, and the ratios of the archive's and of rig.c's time (gcc -O2) to the same work in plain C (gcc -O2,\n"
+           "table of 256), and of the archive's to second/ (Rust, release, bit by bit): under 1 is faster. Medians of %d alternating runs in one\n"
+           "process, each of at least %.0f ms of processor time; the same inputs for all. First it is checked that all agree.\n\n",
            RUNS, 1e3 * SHORTEST_RUN);
-    printf("%-24s %10s %12s   %4s  %-6s %12s\n", "", "ns a call", "to plain C", "goal", "", "to second");
-    make_inputs();
-    for (size_t i = 0; i < count; i++)
-        if (words < 2 || strstr(rows[i].name, word[1]) != NULL) {
+    printf("%-22s %9s %10s  %4s %-6s %10s  %4s %-6s %9s\n", "", "ns a call", "archive", "goal", "", "rig.c", "goal", "", "to second");
+    for (size_t i = 0; i < ROWS; i++)
+        if (word == NULL || strstr(rows[i].name, word) != NULL) {
             missed += bench(&rows[i]);
             timed++;
         }
     if (timed == 0) {
-        fprintf(stderr, "bench: %s: no row has that in its name; with no argument all rows are timed\n", word[1]);
+        fprintf(stderr, "bench: %s: no row has that in its name; with no argument all rows are timed\n", word);
         return 2;
     }
-    printf("\nGoals: 1.5 for a lone word of 2 or 6 bytes, 1.1 for one of 64 KiB, for cells and for the entries at N = 16; %d missed.\n", missed);
+    printf("\n%d goals missed.\n", missed);
     return 0;
+}
+
+int main(int words, char **word)
+{
+    make_inputs();
+    if (words == 2 && !strcmp(word[1], "--rows"))
+        return show_rows();
+    if (words == 4 && !strcmp(word[1], "--run"))
+        return run_one(word[2], word[3]);
+    return time_rows(words < 2 ? NULL : word[1]);
 }

@@ -1,0 +1,13 @@
+/* Put before rig.c it gives the entries names of their own, so that rig.c can stand beside the archive in one program. */
+#ifndef RENAMED_H
+#define RENAMED_H
+
+#define rig_pec printed_pec
+#define rig_write printed_write
+#define rig_chain printed_chain
+#define rig_read printed_read
+#define rig_cells printed_cells
+#define rig_tally_add printed_tally_add
+#define rig_wake printed_wake
+
+#endif
