@@ -1,12 +1,12 @@
 """One function of the MIR in C: a statement for a statement, and every local keeps its number (v0 is the result).
 
-An `&mut` is `restrict`: Rattle lends what it lends once. What C leaves undefined and MIR does not is kept out here: arithmetic is done on unsigned numbers of at least 32 bits and cut down
+What C leaves undefined and MIR does not is kept out here: arithmetic is done on unsigned numbers of at least 32 bits and cut down
 to MIR's width, so that nothing is done in `int`; a divisor is a constant other than 0; what is copied from behind one address to
 behind another is a number, since C forbids it for larger things that overlap.
 """
 from printer.constants import constants, operands, target, through
 from printer.mir import NoRule, chain, head, items, simple, statements
-from printer.slices import PARTS, is_slice, lent, names, split, variables
+from printer.slices import PARTS, is_slice, names, split, variables
 from printer.types import record_name, symbol
 
 ARITHMETIC = {"add": "+", "sub": "-", "mul": "*", "div": "/", "rem": "%", "and": "&", "or": "|", "xor": "^", "shl": "<<", "shr": ">>"}
@@ -222,13 +222,8 @@ class Function:
         c = self.types.c(kind)
         return [(c if c.endswith("*") else f"{c} ", f"v{local}")]
 
-    def parameter(self, local):
-        kind = self.kinds[local]
-        writes = lent(kind)[1] if is_slice(kind) else head(kind) == "tyRef" and kind[2] == "mut"
-        return [f"{c}{'restrict ' if writes and c == 'byte *' else ''}{name}" for c, name in self.declared(local)]
-
     def prototype(self):
-        inside = ", ".join(text for local in range(1, self.parameters + 1) for text in self.parameter(local))
+        inside = ", ".join(f"{c}{name}" for local in range(1, self.parameters + 1) for c, name in self.declared(local))
         return f"static {self.types.c(self.kinds[0])} {symbol(self.name)}({inside or 'void'})"
 
     def locals(self):
