@@ -192,7 +192,7 @@ entries: $(LIB)
 	@RIG_LIB='$(abspath $(LIB))' cargo test --offline --quiet --release --manifest-path second/Cargo.toml --test entries -- --nocapture
 
 # Lent buffers stand flush against inaccessible pages: one byte outside traps.
-$(OUT)/fuzz: tests/fuzz.c tests/plain.c tests/plain.h include/rig.h $(LIB) $(SECOND)
+$(OUT)/fuzz: tests/fuzz.c tests/plain.c tests/plain.h bench/makers.h include/rig.h $(LIB) $(SECOND)
 	@mkdir -p $(OUT)
 	@$(FUZZ_CC) $(CHECKED) tests/fuzz.c tests/plain.c $(LIB) $(SECOND) -o $@
 
@@ -207,10 +207,10 @@ fuzz: $(OUT)/fuzz
 	@$(OUT)/fuzz -max_len=2200 -artifact_prefix=$(OUT)/ $(FUZZ) $(OUT)/corpus
 
 bench: build/bench/bench
-	@build/bench/bench $(ARGS)
-	@bench/count build/bench/bench $(ARGS)
+	@build/bench/bench '$(ARGS)'
+	@bench/count build/bench/bench '$(ARGS)'
 
-build/bench/bench: $(wildcard bench/*.c bench/*.h) bench/second/second.h include/rig.h $(ARCHIVE) build/bench/printed.o $(SECOND)
+build/bench/bench: $(wildcard bench/*.c bench/*.h) include/rig.h $(ARCHIVE) build/bench/printed.o $(SECOND)
 	@$(C99) $(filter bench/%.c,$^) build/bench/printed.o $(ARCHIVE) $(SECOND) -o $@
 
 build/bench/printed.o: $(RIG_C) bench/renamed.h

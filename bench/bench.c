@@ -8,10 +8,7 @@
        bench --run MAKER ROW   SETS calls of one maker (printed, plain) and nothing else, for bench/count */
 #define _POSIX_C_SOURCE 199309L
 
-#include "plain.h"
-#include "printed.h"
-#include "rig.h"
-#include "second/second.h"
+#include "makers.h"
 
 #include <stdio.h>
 #include <stdlib.h>

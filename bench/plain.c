@@ -1,6 +1,6 @@
 /* The rig's entries in plain C, written the obvious way: a table of 256 remainders, a search in the table of commands, memcpy and
    memset. It is what the benchmark holds the archive against, and no part of it. */
-#include "plain.h"
+#include "makers.h"
 
 #include <string.h>
 

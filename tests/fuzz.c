@@ -9,7 +9,7 @@
  */
 #define _DEFAULT_SOURCE
 #ifndef NO_SECOND
-#include "../bench/second/second.h"
+#include "../bench/makers.h"
 #endif
 #include "plain.h"
 

@@ -6,8 +6,8 @@ from printer.types import record_name, symbol
 
 LENT = """/* Lent memory. No null pointer goes in, for C has no null + 0. */
 static byte *lent(const uint8_t *at, size_t length) {
-    static byte nothing[1];
-    return length > 0 ? (byte *)at : nothing;
+    static const byte nothing[1] = {0};
+    return (byte *)(length > 0 ? at : nothing);
 }
 """
 
