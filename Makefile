@@ -113,6 +113,7 @@ printed: $(RIG_C)
 	    { tail -40 build/c/$$build/log; exit 1; }; \
 	    grep -h -e 'checks, 0 failed' -e 'none failed' -e 'test result' build/c/$$build/log; \
 	done
+	@tools/header include/rig.h build/c/gcc-O2/librig.a
 
 sanitized: build/c/sanitized/librig.a
 	@echo '== rig.c under the address and undefined-behaviour sanitizers of clang: every test'
