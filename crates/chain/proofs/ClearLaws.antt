@@ -2,7 +2,7 @@
 use mathlib.Core.Path.{_≡_, refl, ap, _∙_}
 use mathlib.Core.Bool.{Bool, true, false, not, _||_}
 use mathlib.Core.Logic.{_⊎_, ⊎-elim}
-use mathlib.Core.List.{List, _∷_}
+use mathlib.Core.List.{List}
 use Prim.Native.Nat.{ℕ, zero, suc, _+_, _*_, _-_, _^_, _≤_, _<_}
 use native.Mathlib.Nat.{le-of-suc-le-suc, eq-or-lt-of-le}
 use native.Mathlib.Numerals.{add-one}
@@ -17,6 +17,7 @@ use Rattle.lent.specs.Memory.{splice}
 use Rattle.lent.specs.Refusal.{pick}
 use Rattle.lent.proofs.Bytes.{bytes-splice, bytes-replicate}
 use Rattle.lent.proofs.Over.{filled}
+use Rattle.lent.proofs.Parts.{part-replicate}
 use Rattle.lent.proofs.Splice.{length-splice, splice-put, splice-before, splice-after, splice-inside}
 use Rattle.frames.specs.Commands.{Row, rows, kindOf, groupOf}
 use Rattle.frames.proofs.Lookup.{looked-up}
@@ -59,20 +60,10 @@ pub length-silence : (count : ℕ) → length (silence count) ≡ count
 unfolding silence
 length-silence count = length-replicate {A = ℕ} count 255
 
-take-replicate : (n m v : ℕ) → n ≤ m → take n (replicate m v) ≡ replicate n v
-take-replicate zero m v h = refl
-take-replicate (suc n) zero v h = absurd (omega arith)
-take-replicate (suc n) (suc m) v h = ap (λ (l : List ℕ). v ∷ l) (take-replicate n m v (omega arith))
-
-drop-replicate : (j m v : ℕ) → drop j (replicate m v) ≡ replicate (m - j) v
-drop-replicate zero m v = let e : m ≡ m - 0 = omega arith in ap (λ (i : ℕ). replicate i v) e
-drop-replicate (suc j) zero v = let e : 0 ≡ 0 - suc j = omega arith in ap (λ (i : ℕ). replicate i v) e
-drop-replicate (suc j) (suc m) v = let e : m - j ≡ suc m - suc j = omega arith in drop-replicate j m v ∙ ap (λ (i : ℕ). replicate i v) e
-
 -- a part of the silence is silence
 pub part-silence : (j n m : ℕ) → j + n ≤ m → take n (drop j (silence m)) ≡ silence n
 unfolding silence
-part-silence j n m h = ap (take n) (drop-replicate j m 255) ∙ take-replicate n (m - j) 255 (omega arith)
+part-silence j n m h = part-replicate j n m 255 h
 
 module _ (n g count : ℕ) (state : List ℕ) (room : g + count ≤ 18) (whole : length state ≡ stateLength n) where
   pub length-cleared : (j : ℕ) → j ≤ n → length (cleared j g count state) ≡ stateLength n

@@ -1,16 +1,15 @@
 -- A read: the answers one device after the other, where each stands in the reply, and the reply laid over the silence. Assumes nothing.
-use mathlib.Core.Path.{_≡_, refl, sym, ap, _∙_, subst}
-use mathlib.Core.Logic.{⊎-elim}
+use mathlib.Core.Path.{_≡_, refl, sym, ap, _∙_}
 use mathlib.Core.List.{List, _++_}
-use Prim.Native.Nat.{ℕ, zero, suc, _+_, _*_, _-_, _≤_, _<_}
-use native.Mathlib.Nat.{le-of-suc-le-suc, eq-or-lt-of-le}
+use Prim.Native.Nat.{ℕ, _+_, _*_, _-_, _≤_, _<_}
 use native.Mathlib.Numerals.{add-one}
 use native.Mathlib.Omega.{arith}
-use lib.ListN.{length, take, drop, replicate, length-append, length-drop, length-replicate, replicate-append-replicate}
-use lib.Seq.{drop-drop, drop-at, drop-append-le, take-append-le, take-all}
+use lib.ListN.{length, take, drop, replicate, length-replicate, replicate-append-replicate}
+use lib.Seq.{drop-drop, drop-at}
 use borrow.Rule.Slice.PartMut.{putMid}
 use Rattle.lent.specs.Memory.{over, splice}
 use Rattle.lent.proofs.Over.{length-over, over-more, over-again}
+use Rattle.lent.proofs.Parts.{length-pieces, piece-at}
 use Rattle.lent.proofs.Splice.{splice-put}
 use Rattle.pec.specs.Group.{withPec}
 use Rattle.pec.proofs.Group.{length-withPec}
@@ -20,15 +19,12 @@ use Rattle.chain.specs.Effect.{silence, answers}
 use Rattle.chain.proofs.StateLaws.{length-stored}
 
 module _ (n g : ℕ) (state : List ℕ) (hg : g < 18) (whole : length state ≡ stateLength n) where
-  pub length-answers : (k : ℕ) → k ≤ n → length (answers k g state) ≡ 8 * k
-  unfolding answers
-  length-answers zero h = refl
-  length-answers (suc k) h =
-      length-append (answers k g state) (withPec (stored k g state))
-      ∙ omega (arith, length-answers k (omega arith), length-withPec (stored k g state), length-stored n k g state h hg whole)
-
   answer-long : (k : ℕ) → k < n → length (withPec (stored k g state)) ≡ 8
   answer-long k h = omega (arith, length-withPec (stored k g state), length-stored n k g state h hg whole)
+
+  pub length-answers : (k : ℕ) → k ≤ n → length (answers k g state) ≡ 8 * k
+  unfolding answers
+  length-answers = length-pieces (λ (k : ℕ). answers k g state) (λ (k : ℕ). withPec (stored k g state)) refl (λ k. refl) 8 n answer-long
 
   -- one turn of the loop that lays them into a part
   pub turn : (k from : ℕ) (old part group : List ℕ) → k < n → from ≡ spot k g → length old ≡ 8 * n → part ≡ over (answers k g state) old
@@ -46,26 +42,12 @@ module _ (n g : ℕ) (state : List ℕ) (hg : g < 18) (whole : length state ≡ 
       ∙ rw add-one in
       (ap length laid ∙ length-over (answers (k + 1) g state) old (omega (arith, length-answers (k + 1) (omega arith))), laid)
 
-  answers-at : (j k : ℕ) → j ≤ n → k < j → take 8 (drop (8 * k) (answers j g state)) ≡ withPec (stored k g state)
-  unfolding answers
-  answers-at zero k l h = absurd (omega arith)
-  answers-at (suc j) k l h =
-      let e = length-answers j (omega arith) in
-      let q = answer-long j l in
-      ⊎-elim
-      (λ c. subst (λ (i : ℕ). take 8 (drop (8 * i) (answers j g state ++ withPec (stored j g state))) ≡ withPec (stored i g state)) (sym c)
-      (ap (take 8) (drop-at (answers j g state) (withPec (stored j g state)) (8 * j) e) ∙ take-all 8 (withPec (stored j g state)) (omega arith)))
-      (λ c. ap (take 8) (drop-append-le (8 * k) (answers j g state) (withPec (stored j g state)) (omega arith))
-      ∙ take-append-le 8 (drop (8 * k) (answers j g state)) (withPec (stored j g state)) (omega (arith, length-drop (8 * k) (answers j g state)))
-      ∙ answers-at j k (omega arith) c)
-      (eq-or-lt-of-le (le-of-suc-le-suc h))
-
   -- device k + 1's group in the reply
   pub eight-answers : (k : ℕ) → k < n → eight k (silence 4 ++ answers n g state) ≡ withPec (stored k g state)
-  unfolding eight silence
+  unfolding eight silence answers
   eight-answers k h =
       ap (take 8) (sym (drop-drop (8 * k) 4 (replicate 4 255 ++ answers n g state)) ∙ ap (drop (8 * k)) (drop-at (replicate 4 255) (answers n g state) 4 refl))
-      ∙ answers-at n k (omega arith) h
+      ∙ piece-at (λ (j : ℕ). answers j g state) (λ (j : ℕ). withPec (stored j g state)) refl (λ j. refl) 8 n answer-long n k (omega arith) h
 
   -- the answers laid into a reply of silence
   pub over-silence : (long : ℕ) (reply : List ℕ) → long ≡ 4 + 8 * n → long ≤ length reply

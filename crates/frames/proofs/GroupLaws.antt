@@ -4,7 +4,7 @@ use mathlib.Core.List.{List, [], _∷_, _++_}
 use Prim.Native.Nat.{ℕ, zero, suc, _+_, _*_, _-_, _≤_, _<_, _/_, _%_}
 use native.Mathlib.Omega.{arith}
 use lib.ListN.{length, take, drop, set, length-append, length-take, length-drop}
-use lib.Seq.{drop-at, drop-append-le, take-append-le, take-all}
+use lib.Seq.{drop-append-le, take-append-le}
 use borrow.Rule.Slice.PartMut.{putMid}
 use Rattle.lent.specs.Memory.{over}
 use Rattle.lent.proofs.Over.{two-more, upto, length-upto, upto-more, rest}
@@ -65,12 +65,8 @@ turn n k at bytes old part group h kn an bn on ep ed eg =
     ap (λ (x : List ℕ). putMid at (at + 8 - at) x group) ep ∙ upto-more all old group (writeGroups (k - 1) bytes) at (at + 8) 8 eight refl (omega arith) (omega arith) next in
     (ap length laid ∙ length-upto all old (at + 8) (omega arith) (omega arith), laid, rest all group (writeGroups (k - 1) bytes) at 8 eight next)
 
--- device k + 1's six bytes at the front of a longer list, and at its end
+-- device k + 1's six bytes at the front of a longer list
 pub six-front : (k : ℕ) (xs ys : List ℕ) → 6 * k + 6 ≤ length xs → six k (xs ++ ys) ≡ six k xs
 unfolding six
 six-front k xs ys h =
     rw (drop-append-le (6 * k) xs ys (omega arith)) (take-append-le 6 (drop (6 * k) xs) ys (omega (arith, length-drop (6 * k) xs)))
-
-pub six-last : (k : ℕ) (xs ys : List ℕ) → length xs ≡ 6 * k → length ys ≡ 6 → six k (xs ++ ys) ≡ ys
-unfolding six
-six-last k xs ys h e = rw (drop-at xs ys (6 * k) h) (take-all 6 ys (omega arith))

@@ -1,47 +1,32 @@
 -- Each device stands alone: its mark and its six bytes are those of its own eight bytes of the reply. Assumes nothing.
 use mathlib.Core.Path.{_≡_, refl, sym, ap, ap₂, _∙_}
 use mathlib.Core.Bool.{Bool, true, false}
-use mathlib.Core.Logic.{⊎-elim}
-use mathlib.Core.List.{List, [], _∷_}
-use Prim.Native.Nat.{ℕ, zero, suc, _+_, _*_, _≤_, _<_}
-use native.Mathlib.Nat.{le-of-suc-le-suc, not-suc-le-zero, eq-or-lt-of-le}
+use mathlib.Core.List.{List}
+use Prim.Native.Nat.{ℕ, _+_, _*_, _≤_, _<_}
 use native.Mathlib.Omega.{arith}
 use borrow.Author.Tests.{eqb-true}
 use lib.Dec.{eqb}
-use lib.ListN.{length, getD, drop, List·getD-append}
-use lib.Seq.{getD-at}
+use lib.ListN.{length, getD, drop}
 use Rattle.lent.specs.Refusal.{pick}
 use Rattle.lent.specs.Memory.{over}
 use Rattle.lent.proofs.Over.{getD-over}
+use Rattle.lent.proofs.Parts.{piece-at, value-at}
 use Rattle.frames.specs.Places.{six, eight}
-use Rattle.frames.proofs.GroupLaws.{six-front, six-last}
+use Rattle.frames.proofs.GroupLaws.{six-front}
 use Rattle.host.specs.Marks.{markOf, bytesOf}
 use Rattle.host.specs.Reader.{allBytes, allMarks, readerNumber, readerBytes, readerMarks, HandsOut}
-use Rattle.host.proofs.MarkLaws.{length-bytesOf}
-use Rattle.host.proofs.ReaderLaws.{length-eight, length-allBytes, length-allMarks}
+use Rattle.host.proofs.ReaderLaws.{length-own, length-allBytes, length-allMarks}
 use Rattle.host.proofs.ReaderNumbers.{reply-length}
 
 -- Device k's share of what n devices give.
 pub mark-at : (n k : ℕ) (reply : List ℕ) → k < n → getD (allMarks n reply) k 0 ≡ markOf (eight k reply)
 unfolding allMarks
-mark-at zero k reply h = absurd (not-suc-le-zero h)
-mark-at (suc n) k reply h =
-    let long = length-allMarks n reply in
-    ⊎-elim
-    (λ e. getD-at (allMarks n reply) (markOf (eight n reply)) [] 0 k (omega arith) ∙ ap (λ (j : ℕ). markOf (eight j reply)) (sym e))
-    (λ l. List·getD-append (allMarks n reply) (markOf (eight n reply) ∷ []) 0 k (omega arith) ∙ mark-at n k reply l)
-    (eq-or-lt-of-le (le-of-suc-le-suc h))
+mark-at n k reply h = value-at (λ (j : ℕ). allMarks j reply) (λ (j : ℕ). markOf (eight j reply)) refl (λ j. refl) n k h
 
 pub six-at : (n k : ℕ) (reply : List ℕ) → k < n → 4 + 8 * n ≤ length reply → six k (allBytes n reply) ≡ bytesOf (eight k reply)
-unfolding allBytes
-six-at zero k reply h r = absurd (not-suc-le-zero h)
-six-at (suc n) k reply h r =
-    let long = length-allBytes n reply (omega arith) in
-    let six-bytes = length-bytesOf (eight n reply) (length-eight n reply (omega arith)) in
-    ⊎-elim
-    (λ e. six-last k (allBytes n reply) (bytesOf (eight n reply)) (omega arith) six-bytes ∙ ap (λ (j : ℕ). bytesOf (eight j reply)) (sym e))
-    (λ l. six-front k (allBytes n reply) (bytesOf (eight n reply)) (omega arith) ∙ six-at n k reply l (omega arith))
-    (eq-or-lt-of-le (le-of-suc-le-suc h))
+unfolding six allBytes
+six-at n k reply h r =
+    piece-at (λ (j : ℕ). allBytes j reply) (λ (j : ℕ). bytesOf (eight j reply)) refl (λ j. refl) 6 n (λ j l. length-own j reply (omega arith)) n k (omega arith) h
 
 -- Device k's share of the lent memory at exit, for all inputs.
 module _ (n code : ℕ) (reply bytes marks : List ℕ) (r : ℕ) (bytes′ marks′ : List ℕ) (k : ℕ) where

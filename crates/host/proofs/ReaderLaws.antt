@@ -1,13 +1,14 @@
 -- Laws of what all devices give: its length, and one turn of the loop that lays it over lent memory. Assumes nothing.
 use mathlib.Core.Path.{_≡_, refl, ap, _∙_}
-use mathlib.Core.List.{List, [], _∷_}
-use Prim.Native.Nat.{ℕ, zero, suc, _+_, _*_, _-_, _≤_, _<_}
+use mathlib.Core.List.{List}
+use Prim.Native.Nat.{ℕ, _+_, _*_, _-_, _≤_, _<_}
 use native.Mathlib.Numerals.{add-one}
 use native.Mathlib.Omega.{arith}
-use lib.ListN.{length, take, drop, set, length-append, length-take, length-drop}
+use lib.ListN.{length, take, drop, set, length-take, length-drop}
 use borrow.Rule.Slice.PartMut.{putMid}
 use Rattle.lent.specs.Memory.{over}
 use Rattle.lent.proofs.Over.{over-more, over-set}
+use Rattle.lent.proofs.Parts.{length-pieces, length-values}
 use Rattle.frames.specs.Places.{eight}
 use Rattle.host.specs.Marks.{markOf, bytesOf}
 use Rattle.host.specs.Reader.{allBytes, allMarks}
@@ -17,17 +18,18 @@ pub length-eight : (k : ℕ) (reply : List ℕ) → 8 * k + 12 ≤ length reply 
 unfolding eight
 length-eight k reply h = simp (length-take, length-drop) (omega arith)
 
+-- what a device gives is six bytes
+pub length-own : (k : ℕ) (reply : List ℕ) → 8 * k + 12 ≤ length reply → length (bytesOf (eight k reply)) ≡ 6
+length-own k reply h = length-bytesOf (eight k reply) (length-eight k reply h)
+
 pub length-allBytes : (k : ℕ) (reply : List ℕ) → 4 + 8 * k ≤ length reply → length (allBytes k reply) ≡ 6 * k
 unfolding allBytes
-length-allBytes zero reply h = refl
-length-allBytes (suc k) reply h =
-    length-append (allBytes k reply) (bytesOf (eight k reply))
-    ∙ omega (arith, length-allBytes k reply (omega arith), length-bytesOf (eight k reply) (length-eight k reply (omega arith)))
+length-allBytes k reply h =
+    length-pieces (λ (j : ℕ). allBytes j reply) (λ (j : ℕ). bytesOf (eight j reply)) refl (λ j. refl) 6 k (λ j l. length-own j reply (omega arith)) k (omega arith)
 
 pub length-allMarks : (k : ℕ) (reply : List ℕ) → length (allMarks k reply) ≡ k
 unfolding allMarks
-length-allMarks zero reply = refl
-length-allMarks (suc k) reply = length-append (allMarks k reply) (markOf (eight k reply) ∷ []) ∙ omega (arith, length-allMarks k reply)
+length-allMarks k reply = length-values (λ (j : ℕ). allMarks j reply) (λ (j : ℕ). markOf (eight j reply)) refl (λ j. refl) k
 
 -- One turn of the loop, at device k: its part of the reply, and what is laid over the lent bytes and the lent marks.
 module _ (k : ℕ) (reply : List ℕ) where
@@ -41,7 +43,7 @@ module _ (k : ℕ) (reply : List ℕ) where
   unfolding allBytes
   turn-bytes old bytes part hr ho eb ep =
       let own : part ≡ bytesOf (eight k reply) = ep ∙ ap bytesOf its-own in
-      let six : length part ≡ 6 = ap length own ∙ length-bytesOf (eight k reply) (length-eight k reply (omega arith)) in
+      let six : length part ≡ 6 = ap length own ∙ length-own k reply (omega arith) in
       ap (λ (l : List ℕ). putMid (6 * k) (6 * k + 6 - 6 * k) l part) eb
       ∙ over-more (allBytes k reply) part old (6 * k) (6 * k + 6) (length-allBytes k reply (omega arith)) (omega arith) ho
       ∙ rw (add-one, own)

@@ -6,3 +6,4 @@ pub mod Bytes
 pub mod Over
 pub mod Six
 pub mod Splice
+pub mod Parts

@@ -1,14 +1,12 @@
 -- Six bytes for each device, one device after the other: two such lists are equal where they agree at each device. Assumes nothing.
 use mathlib.Core.Path.{_≡_, refl, sym, ap, ap₂, _∙_}
-use mathlib.Core.Logic.{⊎-elim}
 use mathlib.Core.List.{List, _++_}
 use Prim.Native.Nat.{ℕ, zero, suc, _+_, _*_, _/_, _%_, _≤_, _<_}
-use native.Mathlib.Nat.{le-of-suc-le-suc, eq-or-lt-of-le}
 use native.Mathlib.Omega.{arith}
-use lib.ListN.{length, take, drop, length-append}
+use lib.ListN.{length, take, drop}
 use lib.Seq.{take-add, take-all}
+use Rattle.lent.proofs.Parts.{length-pieces, piece-at}
 use Rattle.frames.specs.Places.{six}
-use Rattle.frames.proofs.GroupLaws.{six-front, six-last}
 use Rattle.chain.specs.State.{stateLength, spot, stored}
 use Rattle.chain.proofs.StateLaws.{length-stored}
 use Rattle.link.specs.Demands.{held}
@@ -34,18 +32,13 @@ stored-ext n x y lx ly e =
     ap (λ (j : ℕ). take 6 (drop j x)) (sym p) ∙ e (i / 18) (i % 18) (omega arith) (omega arith) ∙ ap (λ (j : ℕ). take 6 (drop j y)) p)
 
 module _ (n g : ℕ) (state : List ℕ) (hg : g < 18) (whole : length state ≡ stateLength n) where
+  own-six : (j : ℕ) → j < n → length (stored j g state) ≡ 6
+  own-six j h = length-stored n j g state h hg whole
+
   pub length-held : (j : ℕ) → j ≤ n → length (held j g state) ≡ 6 * j
   unfolding held
-  length-held zero h = refl
-  length-held (suc j) h =
-      length-append (held j g state) (stored j g state) ∙ omega (arith, length-held j (omega arith), length-stored n j g state h hg whole)
+  length-held = length-pieces (λ (j : ℕ). held j g state) (λ (j : ℕ). stored j g state) refl (λ j. refl) 6 n own-six
 
   pub six-held : (j k : ℕ) → j ≤ n → k < j → six k (held j g state) ≡ stored k g state
-  unfolding held
-  six-held zero k h a = absurd (omega arith)
-  six-held (suc j) k h a =
-      let long = length-held j (omega arith) in
-      ⊎-elim
-      (λ e. six-last k (held j g state) (stored j g state) (omega arith) (length-stored n j g state h hg whole) ∙ ap (λ (i : ℕ). stored i g state) (sym e))
-      (λ l. six-front k (held j g state) (stored j g state) (omega arith) ∙ six-held j k (omega arith) l)
-      (eq-or-lt-of-le (le-of-suc-le-suc a))
+  unfolding held six
+  six-held = piece-at (λ (j : ℕ). held j g state) (λ (j : ℕ). stored j g state) refl (λ j. refl) 6 n own-six
