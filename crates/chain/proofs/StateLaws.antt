@@ -5,9 +5,9 @@ use mathlib.Core.List.{List}
 use Prim.Native.Nat.{ℕ, _+_, _*_, _≤_, _<_}
 use native.Mathlib.Omega.{arith}
 use native.Mathlib.Nat.{eq-or-lt-of-le}
-use lib.ListN.{length, drop, length-take, length-drop}
+use lib.ListN.{length, length-take, length-drop}
 use Rattle.lent.specs.Bytes.{Bytes}
-use Rattle.lent.proofs.Bytes.{bytes-take, bytes-drop, bytes-splice}
+use Rattle.lent.proofs.Bytes.{bytes-part, bytes-splice}
 use Rattle.lent.proofs.Splice.{length-splice, splice-same, splice-before, splice-after}
 use Rattle.lent.proofs.Tests.{lt-or-le}
 use Rattle.chain.specs.State.{stateLength, spot, stored, storing}
@@ -31,7 +31,7 @@ length-stored n k g state h l e = let w = within n k g 1 h (omega arith) in simp
 
 pub bytes-stored : (k g : ℕ) (state : List ℕ) → Bytes state → Bytes (stored k g state)
 unfolding stored
-bytes-stored k g state h = bytes-take 6 (drop (spot k g) state) (bytes-drop (spot k g) state h)
+bytes-stored k g state h = bytes-part 6 (spot k g) state h
 
 -- groups of the same device lie apart, and so do those of two devices
 pub apart : (k h j g count : ℕ) → h < 18 → g + count ≤ 18 → (k ≡ j → (h < g) ⊎ (g + count ≤ h)) → (spot k h + 6 ≤ spot j g) ⊎ (spot j g + 6 * count ≤ spot k h)

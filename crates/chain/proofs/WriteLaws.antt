@@ -14,7 +14,7 @@ use borrow.Rule.Slice.PartMut.{putMid}
 use Rattle.lent.specs.Bytes.{Bytes}
 use Rattle.lent.specs.Refusal.{pick}
 use Rattle.lent.specs.Word.{bitsWhere}
-use Rattle.lent.proofs.Bytes.{bytes-take, bytes-drop, bytes-pick}
+use Rattle.lent.proofs.Bytes.{bytes-take, bytes-part, bytes-pick}
 use Rattle.lent.proofs.Splice.{put-pick}
 use Rattle.pec.specs.Group.{right}
 use Rattle.frames.specs.Places.{wire}
@@ -101,6 +101,6 @@ unfolding written wire
 bytes-written n g frame state bf bs zero = bs
 bytes-written n g frame state bf bs (suc j) =
     let now = bytes-written n g frame state bf bs j in
-    let new = bytes-take 6 (wire n j frame) (bytes-take 8 (drop (4 + 8 * (n - 1 - j)) frame) (bytes-drop (4 + 8 * (n - 1 - j)) frame bf)) in
+    let new = bytes-take 6 (wire n j frame) (bytes-part 8 (4 + 8 * (n - 1 - j)) frame bf) in
     bytes-pick (right (wire n j frame)) (storing j g (take 6 (wire n j frame)) (written n j g frame state)) (written n j g frame state)
     (bytes-storing j g (take 6 (wire n j frame)) (written n j g frame state) new now) now

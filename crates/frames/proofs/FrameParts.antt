@@ -12,7 +12,7 @@ use lib.Seq.{take-at, drop-at, drop-drop}
 use Rattle.lent.specs.Bytes.{Bytes}
 use Rattle.lent.specs.Memory.{over}
 use Rattle.lent.specs.Refusal.{pick, first}
-use Rattle.lent.proofs.Bytes.{bytes-append, bytes-take, bytes-drop}
+use Rattle.lent.proofs.Bytes.{bytes-append, bytes-part}
 use Rattle.lent.proofs.First.{none-first}
 use Rattle.lent.proofs.Pick.{pick-true, pick-false}
 use Rattle.pec.specs.Group.{twoBytes, withPec}
@@ -104,7 +104,7 @@ wire-frame n k code bytes e h l =
 -- BYTES
 pub bytes-six : (k : ℕ) (bytes : List ℕ) → Bytes bytes → Bytes (six k bytes)
 unfolding six
-bytes-six k bytes h = bytes-take 6 (drop (6 * k) bytes) (bytes-drop (6 * k) bytes h)
+bytes-six k bytes h = bytes-part 6 (6 * k) bytes h
 
 pub bytes-command : (code : ℕ) → (kindOf code ≡ 0 → ⊥) → Bytes (twoBytes code)
 bytes-command code known = bytes-two code (omega (arith, known-below code known))

@@ -32,6 +32,9 @@ bytes-drop zero xs h = h
 bytes-drop (suc n) [] h = tt
 bytes-drop (suc n) (x ∷ xs) h = bytes-drop n xs (h .1)
 
+pub bytes-part : (n at : ℕ) (xs : List ℕ) → Bytes xs → Bytes (take n (drop at xs))
+bytes-part n at xs h = bytes-take n (drop at xs) (bytes-drop at xs h)
+
 pub bytes-replicate : (n v : ℕ) → v < 256 → Bytes (replicate n v)
 bytes-replicate zero v h = tt
 bytes-replicate (suc n) v h = (h, bytes-replicate n v h)
