@@ -7,23 +7,19 @@ use native.Mathlib.Omega.{arith}
 use borrow.Author.Tests.{eqb-true}
 use lib.Dec.{eqb}
 use lib.ListN.{length}
-use Rattle.lent.specs.Refusal.{pick, first}
+use Rattle.lent.specs.Refusal.{pick}
+use Rattle.lent.proofs.First.{none-first}
 use Rattle.frames.specs.Size.{outside}
 use Rattle.host.specs.Marks.{anyAbove, countOf}
-use Rattle.host.specs.Tally.{counted, plus, pastAny, tallyNumber, tallyAfter}
+use Rattle.host.specs.Tally.{counted, plus, tallyNumber, tallyAfter}
 use Rattle.host.specs.Row.{after, accepted, total, zeros, Sums}
 use Rattle.host.specs.declared.tally.Tally.{Tally}
 use Rattle.host.proofs.Sorts.{sorts}
 
 -- an accepted reply has no mark above 2
 no-above : (t : Tally) (marks : List ℕ) → tallyNumber t marks ≡ 0 → anyAbove marks ≡ false
-unfolding tallyNumber first pick
-no-above t marks e = by-tests (outside (length marks)) (anyAbove marks) (pastAny (plus t (counted marks))) e
-  where
-    by-tests : (o a p : Bool) → first ((o, 1) ∷ (a, 3) ∷ (p, 8) ∷ []) ≡ 0 → a ≡ false
-    by-tests o false p z = refl
-    by-tests true true p z = absurd (omega arith)
-    by-tests false true p z = absurd (omega arith)
+unfolding tallyNumber
+no-above t marks e = let t1 = none-first (outside (length marks)) 0 _ e in none-first (anyAbove marks) 2 _ (t1 .1) .0
 
 module _ (f : Tally → ℕ) (worth : List ℕ → ℕ) (raises : (t : Tally) (marks : List ℕ) → tallyNumber t marks ≡ 0 → f (plus t (counted marks)) ≡ f t + worth marks) where
   one : (t : Tally) (marks : List ℕ) (row : List (List ℕ)) → f (tallyAfter t marks) + total worth row ≡ f t + total worth (pick (eqb (tallyNumber t marks) 0) (marks ∷ row) row)

@@ -5,7 +5,6 @@ use Prim.Native.Nat.{_≤_, _-_}
 use native.Mathlib.Omega.{arith}
 use Rattle.host.specs.Extremes.{outmost}
 use Rattle.host.proofs.Outmost.{taken, left}
-use native.Mathlib.Omega.{arith}
 use Rattle.host.proofs.extremes.find.Statement.{statement}
 use Rattle.host.proofs.extremes.find.Tie as tie
 
