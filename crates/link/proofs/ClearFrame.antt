@@ -10,7 +10,6 @@ use lib.Dec.{eqb, leb}
 use lib.ListN.{length, replicate}
 use Rattle.lent.specs.Bytes.{Bytes}
 use Rattle.lent.specs.Refusal.{pick}
-use Rattle.lent.proofs.Pick.{pick-true, pick-false}
 use Rattle.frames.specs.Commands.{Row, rows, found, kindOf, groupOf}
 use Rattle.lent.proofs.Tests.{each-below}
 use Rattle.frames.proofs.Lookup.{every, looked-up, found-code}
@@ -59,18 +58,12 @@ module _ (n : ℕ) (n1 : 1 ≤ n) (n16 : n ≤ 16) (s : Sending) (state : List �
   room = clear-room (s .code) c
 
   state-clear : lost s ≡ false → step ours n s state .registers ≡ cleared n (group s) count state
-  unfolding changed
-  state-clear e =
-      Arrival.state-good n n1 n16 s state F whole e
-      ∙ pick-false (eqb (kind s) 1) _ (pick (eqb (kind s) 3) (cleared n (group s) count state) state) (ap (λ (x : ℕ). eqb x 1) c)
-      ∙ pick-true (eqb (kind s) 3) (cleared n (group s) count state) state (ap (λ (x : ℕ). eqb x 3) c)
+  unfolding changed pick
+  state-clear e = Arrival.state-good n n1 n16 s state F whole e ∙ rw c
 
   word-clear : lost s ≡ false → step ours n s state .word ≡ 2 ^ n - 1
-  unfolding report
-  word-clear e =
-      Arrival.word-good n n1 n16 s state F whole e
-      ∙ pick-false (eqb (kind s) 1) _ (pick (eqb (kind s) 3) (2 ^ n - 1) 0) (ap (λ (x : ℕ). eqb x 1) c)
-      ∙ pick-true (eqb (kind s) 3) (2 ^ n - 1) 0 (ap (λ (x : ℕ). eqb x 3) c)
+  unfolding report pick
+  word-clear e = Arrival.word-good n n1 n16 s state F whole e ∙ rw c
 
   -- every group of every device, where the clear acts
   swept : (k h : ℕ) → k < n → h < 18 → stored k h (cleared n (group s) count state) ≡ pick (not (sweeps (s .code) h)) (stored k h state) (replicate 6 255)

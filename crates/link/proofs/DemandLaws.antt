@@ -1,6 +1,6 @@
 -- THE DEMANDS, met by our rig: demand 3 by its frames one after the other, demand 2 as the quiet case of it. Assumes nothing.
-use mathlib.Core.Path.{_≡_, refl, sym, ap, ap₂, _∙_}
-use mathlib.Core.Bool.{Bool, true, false, not, _||_}
+use mathlib.Core.Path.{_≡_, sym, ap, ap₂, _∙_}
+use mathlib.Core.Bool.{Bool, false, not, _||_}
 use mathlib.Core.List.{List, [], _∷_}
 use Prim.Native.Nat.{ℕ, _+_, _*_, _-_, _^_, _≤_, _<_}
 use native.Mathlib.Omega.{arith}
@@ -12,7 +12,7 @@ use Rattle.lent.specs.Refusal.{pick}
 use Rattle.lent.specs.Memory.{over}
 use Rattle.lent.proofs.BitsWhere.{bits-all}
 use Rattle.lent.proofs.Over.{getD-over}
-use Rattle.lent.proofs.Pick.{pick-false}
+use Rattle.lent.proofs.Pick.{pick-false, pick-not}
 use Rattle.pec.specs.Group.{right}
 use Rattle.pec.specs.Noise.{hit}
 use Rattle.pec.proofs.Mask.{unhit-take, unhit-part}
@@ -82,16 +82,11 @@ module _ (n : ℕ) (a : 1 ≤ n) (b : n ≤ 16) (state : List ℕ) (are : Bytes 
       (λ k h. six-held n (group s) (step ours n s state .registers) g18 (O .size) n k (omega arith) h
       ∙ O .write w .own k h ∙ pick-false (missed n s k) (stored k (group s) state) (six k (s .bytes)) (quiet-missed n s k (quiet .0)))
 
-  turned : (b : Bool) (x y : List ℕ) → pick (not b) x y ≡ pick b y x
-  unfolding pick
-  turned true x y = refl
-  turned false x y = refl
-
   sets : kind s ≡ 3 → (k h : ℕ) → k < n → h < 18 → stored k h (step ours n s state .registers) ≡ pick (sweeps (s .code) h) (replicate 6 255) (stored k h state)
   sets c k h lk lh =
       O .clear c .all k h lk lh
       ∙ ap (λ (x : Bool). pick (x || not (sweeps (s .code) h)) (stored k h state) (replicate 6 255)) good
-      ∙ turned (sweeps (s .code) h) (stored k h state) (replicate 6 255)
+      ∙ pick-not (sweeps (s .code) h) (stored k h state) (replicate 6 255)
 
   module _ (q : kind s ≡ 2) where
     abbrev back : List ℕ

@@ -4,7 +4,7 @@ use mathlib.Core.Path.{_≡_, refl, sym, ap, _∙_}
 use mathlib.Core.Bool.{Bool, true, false, not, _||_}
 use mathlib.Core.Logic.{⊎-elim}
 use mathlib.Core.List.{List, _++_}
-use Prim.Native.Nat.{ℕ, _+_, _*_, _-_, _^_, _≤_, _<_}
+use Prim.Native.Nat.{ℕ, _+_, _*_, _-_, _≤_, _<_}
 use native.Mathlib.Omega.{arith}
 use borrow.Author.Tests.{eqb-true, eqb-false, eq-eqb, ne-eqb}
 use lib.Dec.{eqb}
@@ -12,9 +12,9 @@ use lib.ListN.{length, take, drop, getD, replicate, length-append}
 use Rattle.lent.specs.Bytes.{Bytes}
 use Rattle.lent.specs.Memory.{over}
 use Rattle.lent.specs.Refusal.{pick}
-use Rattle.lent.proofs.Bytes.{bytes-take, bytes-drop}
+use Rattle.lent.proofs.Bytes.{bytes-part}
 use Rattle.lent.proofs.Over.{length-over, take-over, getD-over}
-use Rattle.lent.proofs.Pick.{pick-true, pick-false}
+use Rattle.lent.proofs.Pick.{pick-true}
 use Rattle.lent.proofs.Tests.{clash}
 use Rattle.pec.specs.Group.{withPec, right}
 use Rattle.pec.specs.Noise.{noisy, hit, Allowed}
@@ -27,7 +27,7 @@ use Rattle.frames.proofs.Lookup.{group-below}
 use Rattle.frames.proofs.KindCases.{length-long}
 use Rattle.frames.proofs.GroupLaws.{six-front}
 use Rattle.chain.specs.State.{stateLength, stored}
-use Rattle.chain.specs.Effect.{silence, answers, answer, cleared, clearCount, changed, report}
+use Rattle.chain.specs.Effect.{silence, answers, answer, changed, report}
 use Rattle.chain.proofs.StateLaws.{length-stored, bytes-stored}
 use Rattle.chain.proofs.ClearLaws.{length-silence, part-silence}
 use Rattle.chain.proofs.ReadLaws.{length-answers, eight-answers}
@@ -117,8 +117,8 @@ module _ (n : ℕ) (n1 : 1 ≤ n) (n16 : n ≤ 16) (s : Sending) (state : List �
   answered = silence 4 ++ answers n (group s) state
 
   answer-read : answer n (kind s) (group s) (arrives ours n s) state ≡ answered
-  unfolding answer
-  answer-read = pick-true (eqb (kind s) 2) answered (silence (length (arrives ours n s))) (ap (λ (x : ℕ). eqb x 2) q)
+  unfolding answer pick
+  answer-read = rw q
 
   answered-long : length answered ≡ 4 + 8 * n
   answered-long =
@@ -166,7 +166,7 @@ module _ (n : ℕ) (n1 : 1 ≤ n) (n16 : n ≤ 16) (s : Sending) (state : List �
 
   mask-bytes : (k : ℕ) → Bytes (eight k (s .back))
   unfolding eight
-  mask-bytes k = bytes-take 8 (drop (4 + 8 * k) (s .back)) (bytes-drop (4 + 8 * k) (s .back) (F .back-bytes))
+  mask-bytes k = bytes-part 8 (4 + 8 * k) (s .back) (F .back-bytes)
 
   mask-long : (k : ℕ) → k < n → length (eight k (s .back)) ≡ 8
   mask-long k h = length-eight k (s .back) (omega (arith, F .back-long, long))
@@ -208,18 +208,12 @@ module _ (n : ℕ) (n1 : 1 ≤ n) (n16 : n ≤ 16) (s : Sending) (state : List �
     where
       go : (b : Bool) → lost s ≡ b → step ours n s state .registers ≡ state
       go true e = Arrival.state-lost n n1 n16 s state F whole e
-      go false e = unfold changed in
-          (Arrival.state-good n n1 n16 s state F whole e
-          ∙ pick-false (eqb (kind s) 1) _ (pick (eqb (kind s) 3) (cleared n (group s) (clearCount (group s)) state) state) (ap (λ (x : ℕ). eqb x 1) q)
-          ∙ pick-false (eqb (kind s) 3) (cleared n (group s) (clearCount (group s)) state) state (ap (λ (x : ℕ). eqb x 3) q))
+      go false e = Arrival.state-good n n1 n16 s state F whole e ∙ (unfold changed pick in rw q)
 
   word : (b : Bool) → lost s ≡ b → step ours n s state .word ≡ 0
-  unfolding report
+  unfolding report pick
   word true e = Arrival.word-lost n n1 n16 s state F whole e
-  word false e =
-      Arrival.word-good n n1 n16 s state F whole e
-      ∙ pick-false (eqb (kind s) 1) _ (pick (eqb (kind s) 3) (2 ^ n - 1) 0) (ap (λ (x : ℕ). eqb x 1) q)
-      ∙ pick-false (eqb (kind s) 3) (2 ^ n - 1) 0 (ap (λ (x : ℕ). eqb x 3) q)
+  word false e = Arrival.word-good n n1 n16 s state F whole e ∙ rw q
 
   asked : step ours n s state .asked ≡ 0
   unfolding step

@@ -11,7 +11,7 @@ use native.Mathlib.Omega.{arith}
 use Rattle.lent.specs.Bytes.{Bytes}
 use Rattle.lent.specs.Refusal.{pick}
 use Rattle.lent.proofs.BitsWhere.{bits-ext}
-use Rattle.lent.proofs.Pick.{pick-true, pick-false}
+use Rattle.lent.proofs.Pick.{pick-false, pick-not}
 use Rattle.frames.specs.Places.{six}
 use Rattle.frames.proofs.Lookup.{group-below}
 use Rattle.chain.specs.State.{stateLength, stored}
@@ -25,11 +25,6 @@ use Rattle.link.proofs.Held.{stored-ext}
 use Rattle.link.proofs.DemandLaws.{demand3}
 
 -- two ways to say "exactly when"
-and-not : (m : Bool) (x y : List ℕ) → pick m y x ≡ pick (true && not m) x y
-unfolding pick
-and-not true x y = refl
-and-not false x y = refl
-
 sweep-not : (a m : Bool) (x y : List ℕ) → pick (m || not a) y x ≡ pick (a && not m) x y
 unfolding pick
 sweep-not true true x y = refl
@@ -40,17 +35,11 @@ sweep-not false false x y = refl
 -- ONE FRAME, as a function of what was hit
 module _ (R : Rig) (n : ℕ) (s : Sending) (before : List ℕ) (r : Seen) (O : Obeys R n s before r) where
   taken : (k h : ℕ) → k < n → h < 18 → stored k h (r .registers) ≡ takes n k h s (stored k h before)
-  unfolding takes
+  unfolding takes pick
   taken k h lk lh = ⊎-elim write (⊎-elim read clear) (O .kinds)
     where
       old : List ℕ
       old = stored k h before
-
-      of-write : List ℕ
-      of-write = pick (eqb h (group s) && not (missed n s k)) (six k (s .bytes)) old
-
-      of-clear : List ℕ
-      of-clear = pick (sweeps (s .code) h && not (lost s)) (replicate 6 255) old
 
       own-group : (b : Bool) → eqb h (group s) ≡ b → kind s ≡ 1 → stored k h (r .registers) ≡ pick (b && not (missed n s k)) (six k (s .bytes)) old
       own-group true e w =
@@ -58,24 +47,17 @@ module _ (R : Rig) (n : ℕ) (s : Sending) (before : List ℕ) (r : Seen) (O : O
           ap (λ (i : ℕ). stored k i (r .registers)) q
           ∙ O .write w .own k lk
           ∙ ap (λ (i : ℕ). pick (missed n s k) (stored k i before) (six k (s .bytes))) (sym q)
-          ∙ and-not (missed n s k) (six k (s .bytes)) old
-      own-group false e w = O .write w .others k h lk lh (eqb-false h (group s) e) ∙ sym (pick-false false (six k (s .bytes)) old refl)
+          ∙ sym (pick-not (missed n s k) (six k (s .bytes)) old)
+      own-group false e w = O .write w .others k h lk lh (eqb-false h (group s) e)
 
       write : kind s ≡ 1 → stored k h (r .registers) ≡ takes n k h s old
-      write w = own-group (eqb h (group s)) refl w ∙ sym (pick-true (eqb (kind s) 1) of-write (pick (eqb (kind s) 3) of-clear old) (ap (λ (x : ℕ). eqb x 1) w))
+      write w = own-group (eqb h (group s)) refl w ∙ rw w
 
       read : kind s ≡ 2 → stored k h (r .registers) ≡ takes n k h s old
-      read q =
-          ap (stored k h) (O .read q .kept)
-          ∙ sym (pick-false (eqb (kind s) 3) of-clear old (ap (λ (x : ℕ). eqb x 3) q))
-          ∙ sym (pick-false (eqb (kind s) 1) of-write (pick (eqb (kind s) 3) of-clear old) (ap (λ (x : ℕ). eqb x 1) q))
+      read q = ap (stored k h) (O .read q .kept) ∙ rw q
 
       clear : kind s ≡ 3 → stored k h (r .registers) ≡ takes n k h s old
-      clear c =
-          O .clear c .all k h lk lh
-          ∙ sweep-not (sweeps (s .code) h) (lost s) (replicate 6 255) old
-          ∙ sym (pick-true (eqb (kind s) 3) of-clear old (ap (λ (x : ℕ). eqb x 3) c))
-          ∙ sym (pick-false (eqb (kind s) 1) of-write (pick (eqb (kind s) 3) of-clear old) (ap (λ (x : ℕ). eqb x 1) c))
+      clear c = O .clear c .all k h lk lh ∙ sweep-not (sweeps (s .code) h) (lost s) (replicate 6 255) old ∙ rw c
 
 -- THE RUN
 module _ (R : Rig) (d : Demand3 R) (n : ℕ) (a : 1 ≤ n) (b : n ≤ 16) where

@@ -4,14 +4,13 @@ use mathlib.Core.Bool.{Bool, true, false, not, _||_}
 use mathlib.Core.List.{List}
 use Prim.Native.Nat.{ℕ, _+_, _*_, _-_, _/_, _%_, _^_, _≤_, _<_}
 use native.Mathlib.Omega.{arith}
-use lib.Dec.{eqb}
 use lib.ListN.{length, take, drop}
 use lib.Pow.{pow-pos}
 use Rattle.lent.specs.Bytes.{Bytes}
 use Rattle.lent.specs.Refusal.{pick}
-use Rattle.lent.proofs.Bytes.{bytes-take, bytes-drop}
+use Rattle.lent.proofs.Bytes.{bytes-part}
 use Rattle.lent.proofs.BitsWhere.{bit-zero, bits-below, bits-at}
-use Rattle.lent.proofs.Pick.{pick-true, pick-not}
+use Rattle.lent.proofs.Pick.{pick-not}
 use Rattle.pec.specs.Group.{withPec, right}
 use Rattle.pec.specs.Noise.{noisy, hit}
 use Rattle.pec.proofs.Group.{take-withPec}
@@ -57,7 +56,7 @@ module _ (n : ℕ) (n1 : 1 ≤ n) (n16 : n ≤ 16) (s : Sending) (state : List �
 
   mask-bytes : (k : ℕ) → Bytes (wire n k (s .forth))
   unfolding wire
-  mask-bytes k = bytes-take 8 (drop (4 + 8 * (n - 1 - k)) (s .forth)) (bytes-drop (4 + 8 * (n - 1 - k)) (s .forth) (F .forth-bytes))
+  mask-bytes k = bytes-part 8 (4 + 8 * (n - 1 - k)) (s .forth) (F .forth-bytes)
 
   mask-long : (k : ℕ) → k < n → length (wire n k (s .forth)) ≡ 8
   mask-long k h = length-wire n k (s .forth) h (F .forth-long ∙ length-long n (kind s) not-clear)
@@ -74,13 +73,12 @@ module _ (n : ℕ) (n1 : 1 ≤ n) (n16 : n ≤ 16) (s : Sending) (state : List �
 
   -- registers and word where the command was not hit
   state-write : lost s ≡ false → step ours n s state .registers ≡ written n n (group s) (arrives ours n s) state
-  unfolding changed
-  state-write e =
-      Arrival.state-good n n1 n16 s state F whole e ∙ pick-true (eqb (kind s) 1) (written n n (group s) (arrives ours n s) state) _ (ap (λ (x : ℕ). eqb x 1) w)
+  unfolding changed pick
+  state-write e = Arrival.state-good n n1 n16 s state F whole e ∙ rw w
 
   pub word-write : lost s ≡ false → step ours n s state .word ≡ storedBits n n (arrives ours n s)
-  unfolding report
-  word-write e = Arrival.word-good n n1 n16 s state F whole e ∙ pick-true (eqb (kind s) 1) (storedBits n n (arrives ours n s)) _ (ap (λ (x : ℕ). eqb x 1) w)
+  unfolding report pick
+  word-write e = Arrival.word-good n n1 n16 s state F whole e ∙ rw w
 
   own : (b : Bool) → lost s ≡ b → (k : ℕ) → k < n
       → stored k (group s) (step ours n s state .registers) ≡ pick (b || hit (wire n k (s .forth))) (stored k (group s) state) (six k (s .bytes))
