@@ -2,9 +2,10 @@
 -- write on the way out and in a read on the way back. Assumes nothing.
 use mathlib.Core.Path.{_≡_, refl, sym, ap, ap₂, _∙_, subst}
 use mathlib.Core.Bool.{Bool, true, false, _||_}
-use mathlib.Core.Logic.{_⊎_, inl, inr}
+use mathlib.Core.Logic.{_⊎_, inl, inr, ⊎-elim}
 use mathlib.Core.List.{List, [], _∷_, _++_}
 use Prim.Native.Nat.{ℕ, zero, suc, _+_, _*_, _-_, _≤_, _<_}
+use native.Mathlib.Nat.{eq-or-lt-of-le}
 use native.Mathlib.Omega.{arith}
 use lib.Dec.{lit<}
 use lib.ListN.{length, getD, take, drop, replicate, length-append, length-replicate}
@@ -12,15 +13,17 @@ use lib.Seq.{getD-drop, getD-take, drop-at}
 use Rattle.lent.specs.Bytes.{Bytes}
 use Rattle.lent.specs.Refusal.{pick}
 use Rattle.lent.proofs.Bytes.{bytes-append, bytes-replicate}
+use Rattle.lent.proofs.Parts.{take-replicate}
+use Rattle.lent.proofs.Tests.{lt-or-le}
 use Rattle.pec.specs.Register.{bits}
 use Rattle.pec.specs.Noise.{hit, Noise, Allowed}
 use Rattle.pec.specs.Noise.Noise.{burst}
 use Rattle.pec.proofs.Mask.{unhit-take, unhit-part, unhit-zeros}
 use Rattle.frames.specs.Kind.{dataNeeded, frameLength}
-use Rattle.frames.specs.Commands.{rows, found, kindOf}
+use Rattle.frames.specs.Commands.{rows, found, kindOf, groupOf}
 use Rattle.frames.specs.Places.{wire, eight}
-use Rattle.frames.proofs.KindCases.{needs-none, length-long, length-least}
-use Rattle.link.specs.Sending.{Sending, kind, Fair}
+use Rattle.frames.proofs.KindCases.{needs-data, needs-none, length-long, length-least}
+use Rattle.link.specs.Sending.{Sending, Fair}
 use Rattle.link.specs.Promise.{lost, missed, unread}
 
 -- A FRAME FOR ANY COMMAND AND DATA, with any masks
@@ -114,40 +117,28 @@ away (suc from) zero more h = unhit-part 8 from (replicate more 0) (unhit-zeros 
 away (suc from) (suc at) more (inl h) = away from at more (inl (omega arith))
 away (suc from) (suc at) more (inr h) = away from at more (inr (omega arith))
 
-take-zeros : (m n : ℕ) → m ≤ n → take m (replicate n 0) ≡ replicate {A = ℕ} m 0
-take-zeros zero n h = refl
-take-zeros (suc m) zero h = absurd (omega arith)
-take-zeros (suc m) (suc n) h = ap (λ (l : List ℕ). 0 ∷ l) (take-zeros m n (omega arith))
-
 group-at : (at long : ℕ) → at + 8 ≤ long → take 8 (drop at (flipped at long)) ≡ 1 ∷ replicate 7 0
 group-at at long h =
     ap (take 8) (drop-at (replicate at 0) (1 ∷ replicate (long - suc at) 0) at (length-replicate {A = ℕ} at 0))
-    ∙ ap (λ (l : List ℕ). 1 ∷ l) (take-zeros 7 (long - suc at) (omega arith))
+    ∙ ap (λ (l : List ℕ). 1 ∷ l) (take-replicate 7 (long - suc at) 0 (omega arith))
 
 group-hit : (at long : ℕ) → at + 8 ≤ long → hit (take 8 (drop at (flipped at long))) ≡ true
 group-hit at long h = ap hit (group-at at long h) ∙ (unfold hit in refl)
 
-order : (a b : ℕ) → (a < b) ⊎ ((a ≡ b) ⊎ (b < a))
-order zero zero = inr (inl refl)
-order zero (suc b) = inl (omega arith)
-order (suc a) zero = inr (inr (omega arith))
-order (suc a) (suc b) = more (order a b)
-  where
-    more : (a < b) ⊎ ((a ≡ b) ⊎ (b < a)) → (suc a < suc b) ⊎ ((suc a ≡ suc b) ⊎ (suc b < suc a))
-    more (inl h) = inl (omega arith)
-    more (inr (inl e)) = inr (inl (ap suc e))
-    more (inr (inr h)) = inr (inr (omega arith))
-
 groups-allowed : (a b long : ℕ) → 4 + 8 * a + 8 ≤ long → Allowed (take 8 (drop (4 + 8 * b) (flipped (4 + 8 * a) long)))
 unfolding Allowed
-groups-allowed a b long h = go (order a b)
+groups-allowed a b long h = ⊎-elim (λ l. other (inl (omega arith))) (λ l. ⊎-elim own (λ m. other (inr (omega arith))) (eq-or-lt-of-le l)) (lt-or-le a b)
   where
-    go : (a < b) ⊎ ((a ≡ b) ⊎ (b < a)) → Allowed (take 8 (drop (4 + 8 * b) (flipped (4 + 8 * a) long)))
-    go (inl l) = inl (away (4 + 8 * b) (4 + 8 * a) (long - suc (4 + 8 * a)) (inl (omega arith)))
-    go (inr (inl e)) =
-        subst (λ (c : ℕ). Allowed (take 8 (drop (4 + 8 * c) (flipped (4 + 8 * a) long)))) e
-        (inr (subst (λ (l : List ℕ). Noise (bits l)) (sym (group-at (4 + 8 * a) long h)) group-noise))
-    go (inr (inr l)) = inl (away (4 + 8 * b) (4 + 8 * a) (long - suc (4 + 8 * a)) (inr (omega arith)))
+    at : ℕ
+    at = 4 + 8 * a
+
+    other : (at < 4 + 8 * b) ⊎ (4 + 8 * b + 8 ≤ at) → Allowed (take 8 (drop (4 + 8 * b) (flipped at long)))
+    other apart = inl (away (4 + 8 * b) at (long - suc at) apart)
+
+    own : b ≡ a → Allowed (take 8 (drop (4 + 8 * b) (flipped at long)))
+    own e =
+        subst (λ (c : ℕ). Allowed (take 8 (drop (4 + 8 * c) (flipped at long)))) (sym e)
+        (inr (subst (λ (l : List ℕ). Noise (bits l)) (sym (group-at at long h)) group-noise))
 
 -- FAIR FRAMES, for every size, every command of the table and its data
 module _ (n code : ℕ) (bytes : List ℕ) (known : kindOf code ≡ 0 → ⊥) (needed : length bytes ≡ dataNeeded n (kindOf code)) (are : Bytes bytes) where
@@ -252,109 +243,45 @@ reply-hit-unread n code k r h =
     ap₂ (λ (a b : Bool). a || b) (unhit-take 4 (quiet n code) (unhit-zeros (frameLength n (kindOf code))))
     (group-hit (4 + 8 * k) (frameLength n (kindOf code)) (omega arith))
 
--- read CFGA of one device; write CFGA of one and of two devices
-unfoldable pub get : Sending
-get = plain 1 2 []
+-- FRAMES OF CFGA, which wrong versions are tried on: 001 writes it, 002 reads it
+pub cfga-write : kindOf 1 ≡ 1
+unfolding kindOf rows found pick
+cfga-write = refl
 
-unfoldable pub put : Sending
-put = plain 1 1 (replicate 6 5)
+pub cfga-read : kindOf 2 ≡ 2
+unfolding kindOf rows found pick
+cfga-read = refl
 
-unfoldable pub put2 : Sending
-put2 = plain 2 1 (replicate 12 5)
+pub cfga-group : groupOf 1 ≡ 0
+unfolding groupOf rows found pick
+cfga-group = refl
 
-pub get-fair : Fair 1 get
-unfolding get kindOf rows found dataNeeded pick
-get-fair = plain-fair 1 2 [] (λ e. omega arith) refl tt
+-- a write of any data: not hit, its command hit, the group of device k + 1 hit
+module _ (n : ℕ) (bytes : List ℕ) (long : length bytes ≡ 6 * n) (are : Bytes bytes) where
+  write-known : kindOf 1 ≡ 0 → ⊥
+  write-known e = omega (arith, cfga-write)
 
-pub put-fair : Fair 1 put
-unfolding put kindOf rows found dataNeeded pick
-put-fair = plain-fair 1 1 (replicate 6 5) (λ e. omega arith) refl (bytes-replicate 6 5 (omega arith))
+  write-needed : length bytes ≡ dataNeeded n (kindOf 1)
+  write-needed = long ∙ sym (needs-data n (kindOf 1) cfga-write)
 
-pub put2-fair : Fair 2 put2
-unfolding put2 kindOf rows found dataNeeded pick
-put2-fair = plain-fair 2 1 (replicate 12 5) (λ e. omega arith) refl (bytes-replicate 12 5 (omega arith))
+  pub write-fair : Fair n (plain n 1 bytes)
+  write-fair = plain-fair n 1 bytes write-known write-needed are
 
-pub kind-get : kind get ≡ 2
-unfolding get kindOf rows found pick
-kind-get = refl
+  pub write-lost-fair : Fair n (commandHit n 1 bytes)
+  write-lost-fair = command-hit-fair n 1 bytes write-known write-needed are
 
-pub kind-put : kind put ≡ 1
-unfolding put kindOf rows found pick
-kind-put = refl
+  pub write-hit-fair : (k : ℕ) → k < n → Fair n (groupHit n 1 bytes k)
+  write-hit-fair = group-hit-fair n 1 bytes write-known write-needed are cfga-write
 
-pub kind-put2 : kind put2 ≡ 1
-unfolding put2 kindOf rows found pick
-kind-put2 = refl
+-- a read: not hit, its command hit (`reply-hit-fair`: a reply group hit)
+read-known : kindOf 2 ≡ 0 → ⊥
+read-known e = omega (arith, cfga-read)
 
--- A WRITE OF CFGA TO TWO DEVICES, one bit of device 2's group flipped
-unfoldable pub hurt : Sending
-hurt = groupHit 2 1 (replicate 12 5) 1
+read-needed : (n : ℕ) → 0 ≡ dataNeeded n (kindOf 2)
+read-needed n = sym (needs-none n (kindOf 2) (λ e. omega (arith, cfga-read)))
 
-pub hurt-fair : Fair 2 hurt
-unfolding hurt kindOf rows found dataNeeded pick
-hurt-fair = group-hit-fair 2 1 (replicate 12 5) (λ e. omega arith) refl (bytes-replicate 12 5 (omega arith)) refl 1 (omega arith)
+pub read-fair : (n : ℕ) → Fair n (plain n 2 [])
+read-fair n = plain-fair n 2 [] read-known (read-needed n) tt
 
-pub kind-hurt : kind hurt ≡ 1
-unfolding hurt kindOf rows found pick
-kind-hurt = refl
-
--- the same of three devices, one bit of device 3's group flipped
-unfoldable pub hurt3 : Sending
-hurt3 = groupHit 3 1 (replicate 18 5) 2
-
-pub hurt3-fair : Fair 3 hurt3
-unfolding hurt3 kindOf rows found dataNeeded pick
-hurt3-fair = group-hit-fair 3 1 (replicate 18 5) (λ e. omega arith) refl (bytes-replicate 18 5 (omega arith)) refl 2 (omega arith)
-
-pub kind-hurt3 : kind hurt3 ≡ 1
-unfolding hurt3 kindOf rows found pick
-kind-hurt3 = refl
-
--- A WRITE OF CFGA TO ONE DEVICE AND A READ OF IT, the closing bit of the command flipped
-unfoldable pub clipped : Sending
-clipped = commandHit 1 1 (replicate 6 5)
-
-pub clipped-fair : Fair 1 clipped
-unfolding clipped kindOf rows found dataNeeded pick
-clipped-fair = command-hit-fair 1 1 (replicate 6 5) (λ e. omega arith) refl (bytes-replicate 6 5 (omega arith))
-
-unfoldable pub unheard : Sending
-unheard = commandHit 1 2 []
-
-pub unheard-fair : Fair 1 unheard
-unfolding unheard kindOf rows found dataNeeded pick
-unheard-fair = command-hit-fair 1 2 [] (λ e. omega arith) refl tt
-
-pub kind-unheard : kind unheard ≡ 2
-unfolding unheard kindOf rows found pick
-kind-unheard = refl
-
--- A READ OF CFGA OF SIXTEEN DEVICES, one bit of device 1's reply group flipped
-unfoldable pub garbled : Sending
-garbled = replyHit 16 2 0
-
-pub garbled-fair : Fair 16 garbled
-unfolding garbled kindOf rows found pick
-garbled-fair = reply-hit-fair 16 2 0 refl (omega arith)
-
-pub garbled-unread : unread garbled 0 ≡ true
-unfolding garbled kindOf rows found pick
-garbled-unread = reply-hit-unread 16 2 0 refl (omega arith)
-
-pub kind-garbled : kind garbled ≡ 2
-unfolding garbled kindOf rows found pick
-kind-garbled = refl
-
--- A WRITE OF CFGA WITH OTHER BYTES for each of two devices
-unfoldable pub both : Sending
-both = plain 2 1 (replicate 6 5 ++ replicate 6 6)
-
-pub both-fair : Fair 2 both
-unfolding both kindOf rows found dataNeeded pick
-both-fair =
-    plain-fair 2 1 (replicate 6 5 ++ replicate 6 6) (λ e. omega arith) refl
-    (bytes-append (replicate 6 5) (replicate 6 6) (bytes-replicate 6 5 (omega arith)) (bytes-replicate 6 6 (omega arith)))
-
-pub kind-both : kind both ≡ 1
-unfolding both kindOf rows found pick
-kind-both = refl
+pub read-lost-fair : (n : ℕ) → Fair n (commandHit n 2 [])
+read-lost-fair n = command-hit-fair n 2 [] read-known (read-needed n) tt

@@ -1,14 +1,13 @@
--- Writer and chain that both take the groups of two devices in the other order: data arrives where it should, and demand 3 still sees it, since
--- noise on the first group of the wire concerns device 2. Assumes nothing.
-use mathlib.Core.Path.{_≡_, refl, sym, ap, _∙_, subst}
-use mathlib.Core.Bool.{false}
-use mathlib.Core.List.{List}
+-- The other order on the wire: a writer that sends device 1's group first; and writer and chain that both take the groups of two devices in the other
+-- order, so that data arrives where it should, and demand 3 still sees it, since noise on the first group of the wire concerns device 2. Assumes nothing.
+use mathlib.Core.Path.{_≡_, refl}
+use mathlib.Core.List.{List, _++_}
 use Prim.Native.Nat.{ℕ}
 use native.Mathlib.Omega.{arith}
-use lib.ListN.{getD, replicate}
+use lib.ListN.{getD, take, drop, replicate}
 use Rattle.lent.specs.Memory.{over, splice}
 use Rattle.lent.specs.Refusal.{pick, first}
-use Rattle.lent.proofs.Pick.{pick-false}
+use Rattle.lent.proofs.Bytes.{bytes-append, bytes-replicate}
 use Rattle.pec.specs.Register as Register
 use Rattle.pec.specs.Register.{remainderOf, pecOf}
 use Rattle.pec.specs.Group.{twoBytes, withPec, body, sent, offBy, right}
@@ -23,12 +22,27 @@ use Rattle.chain.specs.State.{stateLength, spot, stored, storing}
 use Rattle.chain.specs.Effect.{written, changed}
 use Rattle.chain.specs.Chain.{codeOf, chainNumber, chainState}
 use Rattle.link.specs.Rig.{Rig, ours}
-use Rattle.link.specs.Sending.{group}
+use Rattle.link.specs.Sending.{Sending, Fair}
 use Rattle.link.specs.Step.{frame, arrives, serves, step}
 use Rattle.link.specs.Promise.{lost, missed}
 use Rattle.link.specs.Demands.{Demand3}
-use Rattle.link.proofs.FairFrames.{hurt, hurt-fair, kind-hurt}
-use Rattle.link.proofs.WrongHosts.{one, exchanged, backward}
+use Rattle.link.proofs.FairFrames.{plain, cfga-write, cfga-group, write-fair}
+use Rattle.link.proofs.WrongChains.{first-byte, hurt, hurt-fair}
+
+-- the groups of two devices exchanged
+abbrev exchanged : List ℕ → List ℕ
+exchanged out = take 4 out ++ (take 8 (drop 12 out) ++ (take 8 (drop 4 out) ++ drop 20 out))
+
+abbrev backward : Rig
+backward = record {
+  writer = λ n code bytes out. record {
+    number = ours .writer n code bytes out .number;
+    size = ours .writer n code bytes out .size;
+    out = exchanged (ours .writer n code bytes out .out);
+  };
+  chain = ours .chain;
+  reader = ours .reader;
+}
 
 abbrev swapped : Rig
 swapped = record {
@@ -37,29 +51,28 @@ swapped = record {
   reader = ours .reader;
 }
 
-swapped-keeps : getD (stored 0 0 (step swapped 2 hurt (replicate 216 7) .registers)) 0 0 ≡ 7
-unfolding step serves arrives frame noisy hurt splice stored storing spot wire written changed chainNumber chainState first pick outside right offBy sent body codeOf stateLength frameLength kindOf groupOf rows found writerNumber writerLength writerOut dataNeeded frameOf frameBody writeGroups withPec six twoBytes over pecOf remainderOf Register.step
-swapped-keeps = refl
+-- a write of 5s to device 1 and of 6s to device 2
+abbrev both : Sending
+both = plain 2 1 (replicate 6 5 ++ replicate 6 6)
 
-hurt-heard : missed 2 hurt 0 ≡ false
-unfolding missed lost hit wire hurt frameLength kindOf rows found pick
-hurt-heard = refl
+both-fair : Fair 2 both
+both-fair =
+    write-fair 2 (replicate 6 5 ++ replicate 6 6) refl
+    (bytes-append (replicate 6 5) (replicate 6 6) (bytes-replicate 6 5 (omega arith)) (bytes-replicate 6 6 (omega arith)))
 
-hurt-own : six 0 (hurt .bytes) ≡ replicate 6 5
-unfolding six hurt
-hurt-own = refl
+-- device 1 stores what was sent to device 2; and it keeps what it had where device 2's group was hit
+stores : (getD (stored 0 0 (step backward 2 both (replicate 216 7) .registers)) 0 0 ≡ 6)
+    × (getD (stored 0 0 (step swapped 2 (hurt 2 1) (replicate 216 7) .registers)) 0 0 ≡ 7)
+unfolding step serves arrives frame noisy splice stored storing spot wire written changed chainNumber chainState first pick outside right offBy sent body codeOf stateLength frameLength kindOf groupOf rows found writerNumber writerLength writerOut dataNeeded frameOf frameBody writeGroups withPec six twoBytes over pecOf remainderOf Register.step
+stores = (refl, refl)
 
-hurt-zero : group hurt ≡ 0
-unfolding hurt groupOf rows found pick
-hurt-zero = refl
+pub backward-fails : Demand3 backward → ⊥
+unfolding missed lost hit wire kindOf rows found frameLength pick six
+backward-fails d =
+    let e = first-byte backward d 2 (omega arith) (omega arith) both both-fair cfga-write cfga-group 0 (omega arith) 6 5 (stores .0) refl in omega arith
 
 pub swapped-fails : Demand3 swapped → ⊥
+unfolding missed lost hit wire kindOf rows found frameLength pick six
 swapped-fails d =
-    let o = one swapped d 2 (omega arith) (omega arith) hurt hurt-fair in
-    let e : _≡_ {A = ℕ} 7 5 =
-    sym swapped-keeps
-    ∙ ap (λ (l : List ℕ). getD l 0 0)
-    (subst (λ (g : ℕ). stored 0 g (step swapped 2 hurt (replicate 216 7) .registers) ≡ six 0 (hurt .bytes)) hurt-zero
-    (o .write kind-hurt .own 0 (omega arith) ∙ pick-false (missed 2 hurt 0) (stored 0 (group hurt) (replicate 216 7)) (six 0 (hurt .bytes)) hurt-heard)
-    ∙ hurt-own) in
+    let e = first-byte swapped d 2 (omega arith) (omega arith) (hurt 2 1) (hurt-fair 2 1 (omega arith)) cfga-write cfga-group 0 (omega arith) 7 5 (stores .1) refl in
     omega arith
