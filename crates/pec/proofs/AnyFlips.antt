@@ -13,7 +13,7 @@ use Rattle.pec.specs.Register.{bits}
 use Rattle.pec.specs.Noise.{noisy, hit}
 use Rattle.pec.proofs.Xor.{xor-back}
 use Rattle.pec.proofs.Linear.{xors}
-use Rattle.pec.proofs.Mask.{cons-eq, bits-noisy}
+use Rattle.pec.proofs.Mask.{bits-noisy}
 
 -- the mask between the bytes sent and those that arrive
 unfoldable pub maskOf : List ℕ → List ℕ → List ℕ
@@ -26,7 +26,7 @@ unfolding maskOf noisy
 mask-does [] [] l = refl
 mask-does [] (y ∷ ys) l = absurd (omega arith)
 mask-does (x ∷ xs) [] l = absurd (omega arith)
-mask-does (x ∷ xs) (y ∷ ys) l = cons-eq (xor-comm x (bitXor y x) ∙ xor-back y x) (mask-does xs ys (omega arith))
+mask-does (x ∷ xs) (y ∷ ys) l = ap₂ _∷_ (xor-comm x (bitXor y x) ∙ xor-back y x) (mask-does xs ys (omega arith))
 
 pub mask-long : (xs ys : List ℕ) → length xs ≡ length ys → length (maskOf xs ys) ≡ length xs
 unfolding maskOf

@@ -15,9 +15,6 @@ use Rattle.pec.specs.Register.{bits}
 use Rattle.pec.specs.Noise.{noisy, hit}
 use Rattle.pec.proofs.Linear.{xors}
 
-pub cons-eq : {x y : ℕ} {xs ys : List ℕ} → x ≡ y → xs ≡ ys → _≡_ {A = List ℕ} (x ∷ xs) (y ∷ ys)
-cons-eq p q = ap₂ (λ (a : ℕ) (l : List ℕ). a ∷ l) p q
-
 pub length-noisy : (m xs : List ℕ) → length (noisy m xs) ≡ length xs
 unfolding noisy
 length-noisy [] xs = refl
@@ -36,7 +33,7 @@ unfolding noisy hit
 unhit-same [] xs e = refl
 unhit-same (m ∷ ms) [] e = refl
 unhit-same (m ∷ ms) (x ∷ xs) e =
-    cons-eq
+    ap₂ _∷_
     (ap (bitXor x) (eqb-true m 0 (not-false (eqb m 0) (or-left (not (eqb m 0)) (hit ms) e))) ∙ xor-zero-r x)
     (unhit-same ms xs (or-right (not (eqb m 0)) (hit ms) e))
 
@@ -50,8 +47,8 @@ bits-noisy [] [] l = refl
 bits-noisy [] (x ∷ xs) l = absurd (omega arith)
 bits-noisy (m ∷ ms) [] l = absurd (omega arith)
 bits-noisy (m ∷ ms) (x ∷ xs) l =
-    cons-eq (bit 7 x m) (cons-eq (bit 6 x m) (cons-eq (bit 5 x m) (cons-eq (bit 4 x m)
-    (cons-eq (bit 3 x m) (cons-eq (bit 2 x m) (cons-eq (bit 1 x m) (cons-eq (xor-mod x m 1) (bits-noisy ms xs (omega arith)))))))))
+    ap₂ _∷_ (bit 7 x m) (ap₂ _∷_ (bit 6 x m) (ap₂ _∷_ (bit 5 x m) (ap₂ _∷_ (bit 4 x m)
+    (ap₂ _∷_ (bit 3 x m) (ap₂ _∷_ (bit 2 x m) (ap₂ _∷_ (bit 1 x m) (ap₂ _∷_ (xor-mod x m 1) (bits-noisy ms xs (omega arith)))))))))
 
 -- parts of what arrives
 pub take-noisy : (n : ℕ) (m xs : List ℕ) → take n (noisy m xs) ≡ noisy (take n m) (take n xs)
@@ -59,7 +56,7 @@ unfolding noisy
 take-noisy zero m xs = refl
 take-noisy (suc n) [] xs = refl
 take-noisy (suc n) (m ∷ ms) [] = refl
-take-noisy (suc n) (m ∷ ms) (x ∷ xs) = cons-eq refl (take-noisy n ms xs)
+take-noisy (suc n) (m ∷ ms) (x ∷ xs) = ap₂ _∷_ refl (take-noisy n ms xs)
 
 pub drop-noisy : (n : ℕ) (m xs : List ℕ) → drop n (noisy m xs) ≡ noisy (drop n m) (drop n xs)
 unfolding noisy
@@ -104,7 +101,7 @@ unfolding noisy
 noisy-more [] xs i hm hx = absurd (omega arith)
 noisy-more (m ∷ ms) [] i hm hx = absurd (omega arith)
 noisy-more (m ∷ ms) (x ∷ xs) zero hm hx = refl
-noisy-more (m ∷ ms) (x ∷ xs) (suc i) hm hx = cons-eq refl (noisy-more ms xs i (omega arith) (omega arith))
+noisy-more (m ∷ ms) (x ∷ xs) (suc i) hm hx = ap₂ _∷_ refl (noisy-more ms xs i (omega arith) (omega arith))
 
 pub noisy-all : (m xs : List ℕ) (i : ℕ) → min (length m) (length xs) ≤ i → noisy (take i m) xs ≡ noisy m xs
 unfolding noisy
@@ -112,4 +109,4 @@ noisy-all [] xs i h = ap (λ (l : List ℕ). noisy l xs) (take-nil i)
 noisy-all (m ∷ ms) [] zero h = refl
 noisy-all (m ∷ ms) [] (suc i) h = refl
 noisy-all (m ∷ ms) (x ∷ xs) zero h = absurd (omega arith)
-noisy-all (m ∷ ms) (x ∷ xs) (suc i) h = cons-eq refl (noisy-all ms xs i (omega arith))
+noisy-all (m ∷ ms) (x ∷ xs) (suc i) h = ap₂ _∷_ refl (noisy-all ms xs i (omega arith))
