@@ -12,13 +12,13 @@ use lib.Seq.{take-at, drop-at, drop-drop}
 use Rattle.lent.specs.Bytes.{Bytes}
 use Rattle.lent.specs.Memory.{over}
 use Rattle.lent.specs.Refusal.{pick, first}
-use Rattle.lent.proofs.Bytes.{bytes-append, bytes-part}
+use Rattle.lent.proofs.Bytes.{bytes-append, bytes-part, bytes-replicate, bytes-pick}
 use Rattle.lent.proofs.First.{none-first}
 use Rattle.lent.proofs.Pick.{pick-true, pick-false}
 use Rattle.pec.specs.Group.{twoBytes, withPec}
 use Rattle.pec.proofs.Group.{length-withPec, bytes-two, bytes-withPec}
 use Rattle.frames.specs.Size.{outside}
-use Rattle.frames.specs.Kind.{dataNeeded, frameLength}
+use Rattle.frames.specs.Kind.{isWrite, isRead, dataNeeded, frameLength}
 use Rattle.frames.specs.Commands.{kindOf}
 use Rattle.frames.specs.Places.{six, wire}
 use Rattle.frames.specs.Frame.{writeGroups, frameBody, frameOf}
@@ -29,11 +29,11 @@ use Rattle.frames.proofs.GroupLaws.{length-six, length-writeGroups}
 use Rattle.frames.proofs.FrameLaws.{length-command}
 
 -- what a number 0 of the writer tells, and what gives it
-pub record Made (n code bytesLength outLength : ℕ) : Type 0 where
+pub record Made (n code bytesLen outLen : ℕ) : Type 0 where
   pub size : outside n ≡ false
   pub known : kindOf code ≡ 0 → ⊥
-  pub needed : bytesLength ≡ dataNeeded n (kindOf code)
-  pub room : frameLength n (kindOf code) ≤ outLength
+  pub needed : bytesLen ≡ dataNeeded n (kindOf code)
+  pub room : frameLength n (kindOf code) ≤ outLen
 
 pub made : (n code d o : ℕ) → writerNumber n code d o ≡ 0 → Made n code d o
 unfolding writerNumber
@@ -115,10 +115,11 @@ bytes-writeGroups zero bytes h = tt
 bytes-writeGroups (suc k) bytes h =
     bytes-append (withPec (six k bytes)) (writeGroups k bytes) (bytes-withPec (six k bytes) (bytes-six k bytes h)) (bytes-writeGroups k bytes h)
 
-pub bytes-write-frame : (n code : ℕ) (bytes : List ℕ) → kindOf code ≡ 1 → Bytes bytes → Bytes (frameOf n code bytes)
-unfolding frameOf frameBody pick
-bytes-write-frame n code bytes e b =
-    rw e (bytes-append (withPec (twoBytes code)) (writeGroups n bytes) (bytes-withPec (twoBytes code) (bytes-command code (λ z. omega arith))) (bytes-writeGroups n bytes b))
+pub bytes-frame : (n code : ℕ) (bytes : List ℕ) → (kindOf code ≡ 0 → ⊥) → Bytes bytes → Bytes (frameOf n code bytes)
+unfolding frameOf frameBody
+bytes-frame n code bytes known b =
+    bytes-append (withPec (twoBytes code)) (frameBody n (kindOf code) bytes) (bytes-withPec (twoBytes code) (bytes-command code known))
+    (bytes-pick (isWrite (kindOf code)) _ _ (bytes-writeGroups n bytes b) (bytes-pick (isRead (kindOf code)) _ _ (bytes-replicate (8 * n) 255 (omega arith)) tt))
 
 -- what the writer says it wrote lies within the output
 pub written-fits : (n code : ℕ) (bytes out : List ℕ) (r : Written) (out′ : List ℕ) → Wrote n code bytes out r out′ → r .length ≤ length out

@@ -1,6 +1,6 @@
 -- What arrives of a fair frame, and what the chain's number, registers and word then are: the command is right exactly when it was not hit. Assumes nothing.
-use mathlib.Core.Path.{_≡_, refl, sym, ap, _∙_}
-use mathlib.Core.Bool.{true, false, not}
+use mathlib.Core.Path.{_≡_, refl, sym, ap, _∙_, subst}
+use mathlib.Core.Bool.{Bool, true, false, not}
 use mathlib.Core.List.{List}
 use Prim.Native.Nat.{ℕ, _+_, _≤_}
 use native.Mathlib.Omega.{arith}
@@ -111,6 +111,14 @@ module _ (n : ℕ) (n1 : 1 ≤ n) (n16 : n ≤ 16) (s : Sending) (state : List �
   state-good e =
       ap (λ (a : ℕ). chainState a n (arrives ours n s) state) (number-good e)
       ∙ ap (λ (c : ℕ). changed n (kindOf c) (groupOf c) (arrives ours n s) state) (code-arrives e)
+
+  -- what holds of the registers before, and of what a frame that is not lost makes of them, holds of them after
+  pub holds : (P : List ℕ → Type 0) → P state → P (changed n (kind s) (group s) (arrives ours n s) state) → P (step ours n s state .registers)
+  holds P old new = go (lost s) refl
+    where
+      go : (b : Bool) → lost s ≡ b → P (step ours n s state .registers)
+      go true e = subst P (sym (state-lost e)) old
+      go false e = subst P (sym (state-good e)) new
 
   pub word-good : lost s ≡ false → step ours n s state .word ≡ report n (kind s) (arrives ours n s)
   unfolding step serves chainWord pick

@@ -1,5 +1,5 @@
 -- A clear over the noisy wire: it acts on every device exactly when its command was not hit. Assumes nothing.
-use mathlib.Core.Path.{_≡_, refl, sym, ap, _∙_, subst}
+use mathlib.Core.Path.{_≡_, refl, sym, ap, _∙_}
 use mathlib.Core.Bool.{Bool, true, false, not, _||_, _&&_}
 use mathlib.Core.Logic.{inl, inr}
 use mathlib.Core.List.{List}
@@ -8,14 +8,13 @@ use native.Mathlib.Omega.{arith}
 use borrow.Author.Tests.{leb-true, leb-false}
 use lib.Dec.{eqb, leb}
 use lib.ListN.{length, replicate}
-use Rattle.lent.specs.Bytes.{Bytes}
 use Rattle.lent.specs.Refusal.{pick}
 use Rattle.frames.specs.Commands.{Row, rows, found, kindOf, groupOf}
 use Rattle.lent.proofs.Tests.{each-below}
 use Rattle.frames.proofs.Lookup.{every, looked-up, found-code}
 use Rattle.chain.specs.State.{stateLength, stored}
 use Rattle.chain.specs.Effect.{silence, clearCount, cleared, changed, report}
-use Rattle.chain.proofs.ClearLaws.{clear-room, length-cleared, cleared-own, cleared-other, bytes-cleared}
+use Rattle.chain.proofs.ClearLaws.{clear-room, cleared-own, cleared-other}
 use Rattle.link.specs.Rig.{ours}
 use Rattle.link.specs.Sending.{Sending, kind, group, Fair}
 use Rattle.link.specs.Step.{step}
@@ -50,7 +49,7 @@ sweeps-from code h e l =
     looked-up (sweepTest h) code refl (tested h l) in
     ap (λ (c : ℕ). sweeps c h) (sym (found-code code rows)) ∙ alike-same (sweeps (found code rows .code) h) (from-first h (found code rows)) (rw e at t)
 
-module _ (n : ℕ) (n1 : 1 ≤ n) (n16 : n ≤ 16) (s : Sending) (state : List ℕ) (F : Fair n s) (are : Bytes state) (whole : length state ≡ stateLength n) (c : kind s ≡ 3) where
+module _ (n : ℕ) (n1 : 1 ≤ n) (n16 : n ≤ 16) (s : Sending) (state : List ℕ) (F : Fair n s) (whole : length state ≡ stateLength n) (c : kind s ≡ 3) where
   abbrev count : ℕ
   count = clearCount (group s)
 
@@ -92,11 +91,3 @@ module _ (n : ℕ) (n1 : 1 ≤ n) (n16 : n ≤ 16) (s : Sending) (state : List �
 
   pub clears : Clears n s state (step ours n s state)
   clears = record { all = λ k h lk lh. all (lost s) refl k h lk lh; word = word (lost s) refl }
-
-  pub clear-size : (b : Bool) → lost s ≡ b → length (step ours n s state .registers) ≡ stateLength n
-  clear-size true e = ap length (Arrival.state-lost n n1 n16 s state F whole e) ∙ whole
-  clear-size false e = ap length (state-clear e) ∙ length-cleared n (group s) count state room whole n (omega arith)
-
-  pub clear-bytes : (b : Bool) → lost s ≡ b → Bytes (step ours n s state .registers)
-  clear-bytes true e = subst Bytes (sym (Arrival.state-lost n n1 n16 s state F whole e)) are
-  clear-bytes false e = subst Bytes (sym (state-clear e)) (bytes-cleared (group s) count state are n)

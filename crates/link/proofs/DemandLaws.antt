@@ -72,13 +72,13 @@ module _ (n : ℕ) (a : 1 ≤ n) (b : n ≤ 16) (state : List ℕ) (are : Bytes 
   word-full : kind s ≡ 1 → step ours n s state .word ≡ 2 ^ n - 1
   unfolding storedBits
   word-full w =
-      word-write n a b s state F are whole w good
-      ∙ bits-all (λ (i : ℕ). right (wire n i (arrives ours n s))) n (λ k h. wire-right n a b s state F are whole w k h ∙ ap not (quiet-wire n s k (quiet .0)))
+      word-write n a b s state F whole w good
+      ∙ bits-all (λ (i : ℕ). right (wire n i (arrives ours n s))) n (λ k h. wire-right n a b s state F whole w k h ∙ ap not (quiet-wire n s k (quiet .0)))
 
   stores : kind s ≡ 1 → held n (group s) (step ours n s state .registers) ≡ s .bytes
   stores w =
       six-ext n (held n (group s) (step ours n s state .registers)) (s .bytes)
-      (length-held n (group s) (step ours n s state .registers) g18 (O .size) n (omega arith)) (bytes-long n a b s state F are whole w)
+      (length-held n (group s) (step ours n s state .registers) g18 (O .size) n (omega arith)) (bytes-long n a b s state F whole w)
       (λ k h. six-held n (group s) (step ours n s state .registers) g18 (O .size) n k (omega arith) h
       ∙ O .write w .own k h ∙ pick-false (missed n s k) (stored k (group s) state) (six k (s .bytes)) (quiet-missed n s k (quiet .0)))
 

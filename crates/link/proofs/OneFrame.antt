@@ -1,7 +1,7 @@
 -- One fair frame: what happens is what is promised. Assumes nothing.
 use mathlib.Core.Path.{_≡_, refl, sym, ap, ap₂, _∙_, subst, fun-ext}
 use mathlib.Core.Bool.{Bool, true, false}
-use mathlib.Core.Logic.{_⊎_, inl, inr, ⊎-elim}
+use mathlib.Core.Logic.{_⊎_, inl, inr}
 use mathlib.Core.List.{List}
 use Prim.Native.Nat.{ℕ, zero, suc, _≤_, _<_}
 use native.Mathlib.Omega.{arith}
@@ -9,19 +9,22 @@ use lib.ListN.{length, take, replicate}
 use Rattle.lent.specs.Bytes.{Bytes}
 use Rattle.lent.specs.Refusal.{pick}
 use Rattle.pec.specs.Noise.{noisy, hit}
-use Rattle.pec.proofs.Mask.{unhit-same, unhit-zeros}
-use Rattle.frames.proofs.Lookup.{kind-below}
+use Rattle.pec.proofs.Mask.{bytes-noisy, unhit-same, unhit-zeros}
+use Rattle.frames.proofs.Lookup.{kind-below, group-below}
+use Rattle.frames.proofs.FrameParts.{bytes-frame}
 use Rattle.chain.specs.State.{stateLength}
+use Rattle.chain.proofs.ClearLaws.{clear-room}
+use Rattle.chain.proofs.Obeyed.{length-changed, bytes-changed}
 use Rattle.host.specs.Reader.{readerBytes, readerMarks}
 use Rattle.host.proofs.ReaderNumbers.{number-7}
 use Rattle.link.specs.Rig.{Served, Handed, ours}
-use Rattle.link.specs.Sending.{Sending, kind, Fair}
+use Rattle.link.specs.Sending.{Sending, kind, group, Fair}
 use Rattle.link.specs.Step.{frame, arrives, serves, returns, hands, Seen, gathered, step, calm}
 use Rattle.link.specs.Promise.{lost, Obeys}
 use Rattle.link.proofs.Arrival as Arrival
-use Rattle.link.proofs.WriteFrame.{writes, write-size, write-bytes}
-use Rattle.link.proofs.ReadFrame.{reads, kept}
-use Rattle.link.proofs.ClearFrame.{clears, clear-size, clear-bytes}
+use Rattle.link.proofs.WriteFrame.{writes}
+use Rattle.link.proofs.ReadFrame.{reads}
+use Rattle.link.proofs.ClearFrame.{clears}
 
 -- the step over what the two ways do to bytes
 stepBy : ℕ → Sending → List ℕ → (List ℕ → List ℕ) → (List ℕ → List ℕ) → Seen
@@ -68,13 +71,17 @@ module _ (n : ℕ) (n1 : 1 ≤ n) (n16 : n ≤ 16) (s : Sending) (state : List �
 
   pub size : length (step ours n s state .registers) ≡ stateLength n
   size =
-      ⊎-elim (λ w. write-size n n1 n16 s state F are whole w (lost s) refl)
-      (⊎-elim (λ q. ap length (kept n n1 n16 s state F are whole q) ∙ whole) (λ c. clear-size n n1 n16 s state F are whole c (lost s) refl)) kinds
+      Arrival.holds n n1 n16 s state F whole (λ (r : List ℕ). length r ≡ stateLength n) whole
+      (length-changed n (kind s) (group s) (arrives ours n s) state (group-below (s .code)) (Arrival.arrives-long n n1 n16 s state F whole) (clear-room (s .code)) whole)
+
+  arrives-bytes : Bytes (arrives ours n s)
+  unfolding arrives
+  arrives-bytes =
+      bytes-noisy (s .forth) (frame ours n s) (F .forth-bytes)
+      (subst Bytes (sym (Arrival.frame-is n n1 n16 s state F whole)) (bytes-frame n (s .code) (s .bytes) (F .known) (F .are-bytes)))
 
   pub are-bytes : Bytes (step ours n s state .registers)
-  are-bytes =
-      ⊎-elim (λ w. write-bytes n n1 n16 s state F are whole w (lost s) refl)
-      (⊎-elim (λ q. subst Bytes (sym (kept n n1 n16 s state F are whole q)) are) (λ c. clear-bytes n n1 n16 s state F are whole c (lost s) refl)) kinds
+  are-bytes = Arrival.holds n n1 n16 s state F whole Bytes are (bytes-changed n (kind s) (group s) (arrives ours n s) state arrives-bytes are)
 
   pub obeys : Obeys ours n s state (step ours n s state)
   obeys = record {
@@ -83,9 +90,9 @@ module _ (n : ℕ) (n1 : 1 ≤ n) (n16 : n ≤ 16) (s : Sending) (state : List �
     size = size;
     are-bytes = are-bytes;
     kinds = kinds;
-    write = λ w. writes n n1 n16 s state F are whole w;
+    write = λ w. writes n n1 n16 s state F whole w;
     read = λ q. reads n n1 n16 s state F are whole q;
-    clear = λ c. clears n n1 n16 s state F are whole c;
+    clear = λ c. clears n n1 n16 s state F whole c;
     no-read = no-read;
     unhit = unhit n s state;
   }

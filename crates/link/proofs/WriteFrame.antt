@@ -14,23 +14,23 @@ use Rattle.lent.proofs.Pick.{pick-not}
 use Rattle.pec.specs.Group.{withPec, right}
 use Rattle.pec.specs.Noise.{noisy, hit}
 use Rattle.pec.proofs.Group.{take-withPec}
-use Rattle.pec.proofs.Mask.{bytes-noisy, part-noisy, unhit-same}
+use Rattle.pec.proofs.Mask.{part-noisy, unhit-same}
 use Rattle.pec.proofs.Noise.{found-right}
 use Rattle.frames.specs.Places.{six, wire}
 use Rattle.frames.proofs.Lookup.{group-below}
 use Rattle.frames.proofs.KindCases.{needs-data, length-long}
 use Rattle.frames.proofs.GroupLaws.{length-six}
-use Rattle.frames.proofs.FrameParts.{wire-frame, bytes-six, bytes-write-frame}
+use Rattle.frames.proofs.FrameParts.{wire-frame, bytes-six}
 use Rattle.chain.specs.State.{stateLength, stored}
 use Rattle.chain.specs.Effect.{written, storedBits, changed, report}
-use Rattle.chain.proofs.WriteLaws.{length-wire, length-written, written-own, written-other, bytes-written}
+use Rattle.chain.proofs.WriteLaws.{length-wire, written-own, written-other}
 use Rattle.link.specs.Rig.{ours}
 use Rattle.link.specs.Sending.{Sending, kind, group, Fair}
 use Rattle.link.specs.Step.{frame, arrives, step}
 use Rattle.link.specs.Promise.{lost, missed, Writes}
 use Rattle.link.proofs.Arrival as Arrival
 
-module _ (n : ℕ) (n1 : 1 ≤ n) (n16 : n ≤ 16) (s : Sending) (state : List ℕ) (F : Fair n s) (are : Bytes state) (whole : length state ≡ stateLength n) (w : kind s ≡ 1) where
+module _ (n : ℕ) (n1 : 1 ≤ n) (n16 : n ≤ 16) (s : Sending) (state : List ℕ) (F : Fair n s) (whole : length state ≡ stateLength n) (w : kind s ≡ 1) where
   g18 : group s < 18
   g18 = group-below (s .code)
 
@@ -122,17 +122,3 @@ module _ (n : ℕ) (n1 : 1 ≤ n) (n16 : n ≤ 16) (s : Sending) (state : List �
     word = λ k h. word (lost s) refl k h;
     no-more = no-more (lost s) refl;
   }
-
-  arrives-bytes : Bytes (arrives ours n s)
-  unfolding arrives
-  arrives-bytes =
-      bytes-noisy (s .forth) (frame ours n s) (F .forth-bytes)
-      (subst Bytes (sym (Arrival.frame-is n n1 n16 s state F whole)) (bytes-write-frame n (s .code) (s .bytes) w (F .are-bytes)))
-
-  pub write-size : (b : Bool) → lost s ≡ b → length (step ours n s state .registers) ≡ stateLength n
-  write-size true e = ap length (Arrival.state-lost n n1 n16 s state F whole e) ∙ whole
-  write-size false e = ap length (state-write e) ∙ length-written n (group s) (arrives ours n s) state g18 arrives-long whole n (omega arith)
-
-  pub write-bytes : (b : Bool) → lost s ≡ b → Bytes (step ours n s state .registers)
-  write-bytes true e = subst Bytes (sym (Arrival.state-lost n n1 n16 s state F whole e)) are
-  write-bytes false e = subst Bytes (sym (state-write e)) (bytes-written n (group s) (arrives ours n s) state arrives-bytes are n)
