@@ -15,12 +15,12 @@ use Rattle.frames.specs.declared.writer.Written.{Written}
 
 -- The number: the first that applies (01, "Numbers a call can come back with", Writer).
 unfoldable pub writerNumber : ℕ → ℕ → ℕ → ℕ → ℕ
-writerNumber n code bytesLength outLength =
+writerNumber n code bytesLen outLen =
     first
     ((outside n, 1)  -- N not 1..16
     ∷ (isUnknown (kindOf code), 2)  -- command unknown
-    ∷ (not (eqb bytesLength (dataNeeded n (kindOf code))), 3)  -- write data not 6N, or any data for a read or clear
-    ∷ (ltb outLength (frameLength n (kindOf code)), 5)  -- the lent output too short
+    ∷ (not (eqb bytesLen (dataNeeded n (kindOf code))), 3)  -- write data not 6N, or any data for a read or clear
+    ∷ (ltb outLen (frameLength n (kindOf code)), 5)  -- the lent output too short
     ∷ [])
 
 -- The length: the frame's, and 0 on refusal.

@@ -1,4 +1,4 @@
--- What the host reader gives, for all inputs. Assumes nothing.
+-- What the host reader gives, for all inputs. Device k of 01 has the index k - 1 here. Assumes nothing.
 use Prim.Native.Nat.{ℕ, zero, suc, _+_, _*_}
 use mathlib.Core.Path.{_≡_}
 use mathlib.Core.Bool.{not, _||_}
@@ -24,13 +24,13 @@ allMarks (suc k) reply = allMarks k reply ++ (markOf (eight k reply) ∷ [])
 
 -- The number: the first that applies (01, "Numbers a call can come back with", Reader).
 unfoldable pub readerNumber : ℕ → ℕ → ℕ → ℕ → ℕ → ℕ
-readerNumber n code replyLength bytesLength marksLength =
+readerNumber n code replyLen bytesLen marksLen =
     first
     ((outside n, 1)  -- N not 1..16
     ∷ (isUnknown (kindOf code), 2)  -- command unknown
     ∷ (not (isRead (kindOf code)), 7)  -- command is no read
-    ∷ (not (eqb replyLength (4 + 8 * n)), 3)  -- reply of the wrong length
-    ∷ (ltb bytesLength (6 * n) || ltb marksLength n, 5)  -- a lent output too short
+    ∷ (not (eqb replyLen (4 + 8 * n)), 3)  -- reply of the wrong length
+    ∷ (ltb bytesLen (6 * n) || ltb marksLen n, 5)  -- a lent output too short
     ∷ [])
 
 -- The lent bytes at exit: six for each device laid over them, and untouched on refusal.
