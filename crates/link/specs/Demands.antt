@@ -14,14 +14,19 @@ use Rattle.link.specs.Sending.{Sending, kind, group, Fair}
 use Rattle.link.specs.Step.{Seen, step}
 use Rattle.link.specs.Promise.{sweeps, Obeys}
 
--- A run: each frame meets the registers that the one before it left.
+-- a row of fair frames
 abbrev pub AllFair : ℕ → List Sending → Type 0
 AllFair n [] = Unit {0}
 AllFair n (s ∷ ss) = Fair n s × AllFair n ss
 
+-- the registers that a frame leaves
+abbrev pub after : Rig → ℕ → Sending → List ℕ → List ℕ
+after R n s registers = step R n s registers .registers
+
+-- A run: each frame meets the registers that the one before it left.
 abbrev pub run : Rig → ℕ → List ℕ → List Sending → List Seen
 run R n registers [] = []
-run R n registers (s ∷ ss) = step R n s registers ∷ run R n (step R n s registers .registers) ss
+run R n registers (s ∷ ss) = step R n s registers ∷ run R n (after R n s registers) ss
 
 -- what is seen against what was sent, one for one, each on the registers as they stand
 abbrev pub Obeyed : Rig → ℕ → List ℕ → List Sending → List Seen → Type 0
@@ -67,10 +72,6 @@ pub record Undisturbed (n : ℕ) (s : Sending) (before : List ℕ) (r : Seen) : 
       × (r .asked ≡ 0)
   -- after a write or clear the reader refuses, and touches nothing
   pub no-read : (kind s ≡ 2 → ⊥) → (r .asked ≡ 7) × (r .bytes ≡ s .read) × (r .marks ≡ s .marks)
-
--- the registers that a frame leaves
-abbrev pub after : Rig → ℕ → Sending → List ℕ → List ℕ
-after R n s registers = step R n s registers .registers
 
 -- every quiet frame, and a write that is read back
 abbrev pub Demand2 : Rig → Type 0
