@@ -1,4 +1,5 @@
--- Other devices are not concerned. Assumes nothing.
+-- Other devices are not concerned: "changing one device's group on the wire at will alters no other device's registers" (01, Chain). Device k of 01 has the
+-- index k - 1 here. Assumes nothing.
 use Prim.Native.Nat.{ℕ, _/_, _%_, _^_, _<_}
 use mathlib.Core.Path.{_≡_}
 use mathlib.Core.List.{List}

@@ -1,4 +1,5 @@
--- What a good frame does, by the kind of its command: the reply's bytes, the state after it, the word. Assumes nothing.
+-- What a good frame does, by the kind of its command: the reply's bytes, the state after it, the word. Device k of 01 has the index k - 1 here.
+-- Assumes nothing.
 use Prim.Native.Nat.{ℕ, zero, suc, _*_, _-_, _^_}
 use mathlib.Core.List.{List, [], _++_}
 use lib.Dec.{eqb}
@@ -26,7 +27,7 @@ written n zero g frame state = state
 written n (suc k) g frame state =
     pick (right (wire n k frame)) (storing k g (take 6 (wire n k frame)) (written n k g frame state)) (written n k g frame state)
 
--- The word of a write: bit k - 1 for each device k, of 1 to k, that stored.
+-- The word of a write: of devices 1 to k, bit j - 1 is set for each device j that stored.
 unfoldable pub storedBits : ℕ → ℕ → List ℕ → ℕ
 storedBits n k frame = bitsWhere (λ (j : ℕ). right (wire n j frame)) k
 

@@ -1,4 +1,4 @@
--- The cell reading of one device: eighteen counts of 100 µV and a word of eighteen valid bits. Cell c of the paper is c - 1 here.
+-- The cell reading of one device: eighteen counts of 100 µV and a word of eighteen valid bits. Cell c of 01 has the index c - 1 here.
 -- Assumes nothing.
 use Prim.Native.Nat.{ℕ, zero, suc, _+_, _*_, _/_}
 use mathlib.Core.Path.{_≡_}
@@ -19,7 +19,7 @@ countAt groups cell = getD groups (2 * cell) 0 + 256 * getD groups (2 * cell + 1
 unfoldable pub validAt : List ℕ → ℕ → Bool
 validAt marks cell = wasRead (getD marks (cell / 3) 0)
 
--- Of the first n cells: the counts, 0 where not valid; and the word, bit c for cell c.
+-- Of the first n cells: the counts, 0 where not valid; and the word, a bit for each valid cell.
 unfoldable pub countsOf : ℕ → List ℕ → List ℕ → List ℕ
 countsOf zero groups marks = []
 countsOf (suc n) groups marks = countsOf n groups marks ++ (pick (validAt marks n) (countAt groups n) 0 ∷ [])
@@ -27,12 +27,12 @@ countsOf (suc n) groups marks = countsOf n groups marks ++ (pick (validAt marks 
 unfoldable pub bitsOf : ℕ → List ℕ → ℕ
 bitsOf n marks = bitsWhere (validAt marks) n
 
--- The number: the first that applies.
+-- The number: the first that applies (01, "Numbers a call can come back with", Cells).
 unfoldable pub cellsNumber : List ℕ → List ℕ → ℕ
 cellsNumber groups marks =
     first
-    ((not (eqb (length groups) 36), 3)  -- CVA to CVF
-    ∷ (not (eqb (length marks) 6), 3)
+    ((not (eqb (length groups) 36), 3)  -- CVA to CVF not 36 bytes
+    ∷ (not (eqb (length marks) 6), 3)  -- marks not six
     ∷ (anyAbove marks, 3)  -- a mark above 2
     ∷ [])
 

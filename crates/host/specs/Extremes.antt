@@ -1,4 +1,4 @@
--- The lowest and the highest of the valid cells. Assumes nothing.
+-- The lowest and the highest of the valid cells, from the counts and the word that the cell reading gives. 01 does not ask for it. Assumes nothing.
 use Prim.Native.Nat.{ℕ, zero, suc, _+_, _-_, _/_, _%_, _^_, _<_, _≤_}
 use mathlib.Core.Path.{_≡_}
 use mathlib.Core.Bool.{Bool, true, false, _&&_, _||_}

@@ -1,4 +1,4 @@
--- A row of replies, each added to the tally that the one before left. Assumes nothing.
+-- What a tally sums to: a row of replies, each added to the tally that the one before left. Assumes nothing.
 use Prim.Native.Nat.{ℕ, _+_}
 use mathlib.Core.Path.{_≡_}
 use mathlib.Core.List.{List, [], _∷_}

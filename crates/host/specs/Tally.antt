@@ -25,7 +25,7 @@ past n = ltb 4294967295 n
 unfoldable pub pastAny : Tally → Bool
 pastAny t = past (t .replies) || (past (t .read) || (past (t .wrong) || past (t .silent)))
 
--- The number: the first that applies.
+-- The number: the first that applies (01, "Numbers a call can come back with", Tally).
 unfoldable pub tallyNumber : Tally → List ℕ → ℕ
 tallyNumber t marks =
     first

@@ -19,6 +19,7 @@ waitOf idle n gap = pick (leb idle gap) (10 * n) 0
 abbrev pub idleLimit : ℕ
 idleLimit = 4300
 
+-- The number (01, "Numbers a call can come back with", Wake).
 unfoldable pub wakeNumber : ℕ → ℕ
 wakeNumber n = first ((outside n, 1) ∷ [])  -- N not 1..16
 

@@ -14,7 +14,7 @@ pub struct Readings {
     pub valid: u32,
 }
 
-// Inside, cell c of the paper is c - 1. Three cells to a group.
+// Inside, cell c of 01 is c - 1. Three cells to a group.
 fn is_valid(marks: &[u8], cell: usize) -> bool
     requires { ⌜ (length (now marks) ≡ 6) × (cell < 18) ⌝ }
     ensures { λ r. ⌜ r ≡ validAt (now (marks .entry)) cell ⌝ }

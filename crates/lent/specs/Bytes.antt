@@ -1,4 +1,4 @@
--- Numbers that are bytes. Assumes nothing.
+-- Numbers that are bytes, as the demands ask it of data, of the lent state and of noise. Assumes nothing.
 use Prim.Native.Nat.{ℕ, _<_}
 use mathlib.Core.List.{List, [], _∷_}
 

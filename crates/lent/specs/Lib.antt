@@ -1,3 +1,4 @@
+-- How statements speak of lent bytes, of refusals and of words. Assumes nothing.
 pub mod Bytes
 pub mod Memory
 pub mod Refusal

@@ -1,4 +1,4 @@
--- A word of bits. Assumes nothing.
+-- A word of bits, each by a test: the word that the chain returns, and the valid bits of the cells. Assumes nothing.
 use Prim.Native.Nat.{ℕ, zero, suc, _+_, _^_}
 use mathlib.Core.Bool.{Bool}
 use Rattle.lent.specs.Refusal.{pick}

@@ -1,4 +1,4 @@
--- What demand 3 promises of one frame, by what was hit alone: no check word is in it. Device k of the paper has the index k - 1 here. Assumes nothing.
+-- What demand 3 promises of one frame, by what was hit alone: no check word is in it. Device k of 01 has the index k - 1 here. Assumes nothing.
 use Prim.Native.Nat.{ℕ, _-_, _/_, _%_, _^_, _<_}
 use mathlib.Core.Path.{_≡_}
 use mathlib.Core.Bool.{Bool, false, not, _||_, _&&_}

@@ -1,4 +1,4 @@
--- Noise on bytes that pass: a mask has a 1 where a bit is flipped. Assumes nothing.
+-- Noise on bytes that pass, and how much of it may fall on one group. A mask has a 1 where a bit is flipped. Assumes nothing.
 use Prim.Native.Nat.{ℕ, _+_, _<_, _≤_}
 use mathlib.Core.Path.{_≡_}
 use mathlib.Core.Bool.{Bool, false, not, _||_}

@@ -1,4 +1,4 @@
--- What `pec` promises. Assumes nothing.
+-- What `pec` promises: the check word of Register, for all inputs. Assumes nothing.
 use Prim.Native.Nat.{ℕ}
 use mathlib.Core.Path.{_≡_}
 use mathlib.Core.List.{List}
