@@ -11,21 +11,6 @@ use Rattle.chain.proofs.Numbers.{number-6, number-4, number-2, number-6
 use Rattle.chain.proofs.hear.Statement.{statement}
 use Rattle.chain.proofs.hear.Tie as tie
 
-sub-fill : tie.Need-sub-fill
-sub-fill c = search needs
-
-part-fill-start : tie.Need-part-fill-start
-part-fill-start c = search needs
-
-part-fill-end : tie.Need-part-fill-end
-part-fill-end c = search needs
-
-fill-requires : tie.Need-fill-requires
-fill-requires c κs = search needs
-
-same-length : tie.Need-same-length
-same-length c = search needs
-
 returns : tie.Need-returns
 unfolding fills
 returns c =
@@ -33,24 +18,6 @@ returns c =
     let a = start .args in
     silent (a .n) (a .frame .now) (a .state .now) (a .reply .now) 6 _ refl refl (number-6 _ _ _ _ (start .pre .0) (start .pre .1) (start .pre .2) (c .if1 .taken))
     (filled-over (a .frame .now) (a .reply .now) (c .before .before .before .fill .last .0) (start .pre .2) (c .before .before .before .fill .ensures))
-
-table-requires : tie.Need-table-requires
-table-requires c κs = search needs
-
-sub-is-right : tie.Need-sub-is-right
-sub-is-right c = search needs
-
-part-is-right-start : tie.Need-part-is-right-start
-part-is-right-start c = search needs
-
-part-is-right-end : tie.Need-part-is-right-end
-part-is-right-end c = search needs
-
-is-right-requires : tie.Need-is-right-requires
-is-right-requires c κs = search needs
-
-same-length-2 : tie.Need-same-length-2
-same-length-2 c = search needs
 
 returns-2 : tie.Need-returns-2
 unfolding fills
@@ -61,14 +28,8 @@ returns-2 c =
     silent (a .n) (a .frame .now) (a .state .now) (a .reply .now) 4 _ refl refl (number-4 _ _ _ _ (start .pre .0) (start .pre .1) (start .pre .2) (c .before .before .before .before .before .if1 .left) wrong)
     (filled-over (a .frame .now) (a .reply .now) (c .before .before .before .before .before .before .before .before .fill .last .0) (start .pre .2) (c .before .before .before .before .before .before .before .before .fill .ensures))
 
-shared-slice-read-high : tie.Need-shared-slice-read-high
-shared-slice-read-high c = search needs
-
 cast-high : tie.Need-cast-high
 cast-high c = omega (arith, c .shared-slice-known2 .given 0)
-
-shared-slice-read-low : tie.Need-shared-slice-read-low
-shared-slice-read-low c = search needs
 
 cast-low : tie.Need-cast-low
 cast-low c = omega (arith, c .shared-slice-known3 .given 1)
@@ -78,12 +39,6 @@ mul-find c = omega (arith, c .shared-slice-known3 .given 0)
 
 add-find : tie.Need-add-find
 add-find c = omega (arith, c .shared-slice-known3 .given 0, c .shared-slice-known3 .given 1)
-
-find-requires : tie.Need-find-requires
-find-requires c κs = search needs
-
-same-length-3 : tie.Need-same-length-3
-same-length-3 c = search needs
 
 returns-3 : tie.Need-returns-3
 unfolding fills codeOf
@@ -98,9 +53,6 @@ returns-3 c =
 frame-length-requires : tie.Need-frame-length-requires
 frame-length-requires c κs = at-most _ (c .before .before .before .before .before .before .before .before .before .before .before .before .before .before .before .before .before .pre .0)
 
-same-length-4 : tie.Need-same-length-4
-same-length-4 c = search needs
-
 returns-4 : tie.Need-returns-4
 unfolding fills codeOf
 returns-4 c =
@@ -111,9 +63,6 @@ returns-4 c =
     (number-6-length _ _ _ _ (start .pre .0) (start .pre .1) (start .pre .2) (c .before .before .before .before .before .before .before .before .before .before .before .if1 .left) good _ (c .before .before .before .find .ensures .0) (c .before .before .if3 .left) _ (c .before .frame-length .ensures)
     (c .if4 .taken))
     (filled-over (a .frame .now) (a .reply .now) (c .before .before .before .before .before .before .before .before .before .before .before .before .before .before .fill .last .0) (start .pre .2) (c .before .before .before .before .before .before .before .before .before .before .before .before .before .before .fill .ensures))
-
-cast-group : tie.Need-cast-group
-cast-group c = search needs
 
 obey-requires : tie.Need-obey-requires
 unfolding codeOf
@@ -132,12 +81,6 @@ obey-requires c κs =
       start .pre .1,
       omega arith,
     )
-
-same-length-5 : tie.Need-same-length-5
-same-length-5 c = search needs
-
-same-length-6 : tie.Need-same-length-6
-same-length-6 c = search needs
 
 returns-5 : tie.Need-returns-5
 unfolding codeOf
@@ -161,33 +104,33 @@ pub hear-spec : {M : Type 1} → statement M
 hear-spec =
     tie.close
     (tie.spec
-    sub-fill
-    part-fill-start
-    part-fill-end
-    fill-requires
-    same-length
+    (λ c. search needs)
+    (λ c. search needs)
+    (λ c. search needs)
+    (λ c κs. search needs)
+    (λ c. search needs)
     returns
-    table-requires
-    sub-is-right
-    part-is-right-start
-    part-is-right-end
-    is-right-requires
-    same-length-2
+    (λ c κs. search needs)
+    (λ c. search needs)
+    (λ c. search needs)
+    (λ c. search needs)
+    (λ c κs. search needs)
+    (λ c. search needs)
     returns-2
-    shared-slice-read-high
+    (λ c. search needs)
     cast-high
-    shared-slice-read-low
+    (λ c. search needs)
     cast-low
     mul-find
     add-find
-    find-requires
-    same-length-3
+    (λ c κs. search needs)
+    (λ c. search needs)
     returns-3
     frame-length-requires
-    same-length-4
+    (λ c. search needs)
     returns-4
-    cast-group
+    (λ c. search needs)
     obey-requires
-    same-length-5
-    same-length-6
+    (λ c. search needs)
+    (λ c. search needs)
     returns-5)

@@ -7,9 +7,6 @@ use Rattle.chain.proofs.Numbers.{number-1, number-3, number-5, untouche
 use Rattle.chain.proofs.serve.Statement.{statement}
 use Rattle.chain.proofs.serve.Tie as tie
 
-outside-requires : tie.Need-outside-requires
-outside-requires c κs = search needs
-
 returns : tie.Need-returns
 unfolding fills
 returns c =
@@ -38,25 +35,16 @@ returns-3 c =
 hear-requires : tie.Need-hear-requires
 hear-requires c κs = (sym (c .before .before .before .before .before .before .outside .ensures) ∙ c .before .before .before .before .before .if1 .left, c .before .before .before .if2 .left ∙ c .before .before .before .before .state-length .ensures, c .before .before .if3 .left)
 
-same-length : tie.Need-same-length
-same-length c = search needs
-
-same-length-2 : tie.Need-same-length-2
-same-length-2 c = search needs
-
-returns-4 : tie.Need-returns-4
-returns-4 c = search needs
-
 pub serve-spec : {M : Type 1} → statement M
 serve-spec =
     tie.close
     (tie.spec
-    outside-requires
+    (λ c κs. search needs)
     returns
     state-length-requires
     returns-2
     returns-3
     hear-requires
-    same-length
-    same-length-2
-    returns-4)
+    (λ c. search needs)
+    (λ c. search needs)
+    (λ c. search needs))

@@ -6,27 +6,6 @@ use Rattle.lent.proofs.Six.{six-stored}
 use Rattle.lent.proofs.copy_six.Statement.{statement}
 use Rattle.lent.proofs.copy_six.Tie as tie
 
-shared-slice-read-first : tie.Need-shared-slice-read-first
-shared-slice-read-first c = search needs
-
-shared-slice-read-second : tie.Need-shared-slice-read-second
-shared-slice-read-second c = search needs
-
-shared-slice-read-third : tie.Need-shared-slice-read-third
-shared-slice-read-third c = search needs
-
-shared-slice-read-fourth : tie.Need-shared-slice-read-fourth
-shared-slice-read-fourth c = search needs
-
-shared-slice-read-fifth : tie.Need-shared-slice-read-fifth
-shared-slice-read-fifth c = search needs
-
-shared-slice-read-sixth : tie.Need-shared-slice-read-sixth
-shared-slice-read-sixth c = search needs
-
-slice-write-part : tie.Need-slice-write-part
-slice-write-part c = search needs
-
 slice-write-part-2 : tie.Need-slice-write-part-2
 slice-write-part-2 c = simp length-set (omega arith)
 
@@ -54,13 +33,13 @@ pub copy-six-spec : {M : Type 1} → statement M
 copy-six-spec =
     tie.close
     (tie.spec
-    shared-slice-read-first
-    shared-slice-read-second
-    shared-slice-read-third
-    shared-slice-read-fourth
-    shared-slice-read-fifth
-    shared-slice-read-sixth
-    slice-write-part
+    (λ c. search needs)
+    (λ c. search needs)
+    (λ c. search needs)
+    (λ c. search needs)
+    (λ c. search needs)
+    (λ c. search needs)
+    (λ c. search needs)
     slice-write-part-2
     slice-write-part-3
     slice-write-part-4

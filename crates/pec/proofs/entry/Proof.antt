@@ -8,16 +8,10 @@ use Rattle.pec.proofs.Rule.{entry-follows}
 use Rattle.pec.proofs.entry.Statement.{statement}
 use Rattle.pec.proofs.entry.Tie as tie
 
-mul-result : tie.Need-mul-result
-mul-result c = search needs
-
-element-copy-out-result : tie.Need-element-copy-out-result
-element-copy-out-result c = search needs
-
 returns : tie.Need-returns
 returns c =
     let start = c .before in
     ap (λ (l : List ℕ). getD l (start .args .i) 0) (start .pre .0) ∙ entry-follows (start .args .i) (start .pre .1)
 
 pub entry-spec : {M : Type 1} → statement M
-entry-spec = tie.close (tie.spec mul-result element-copy-out-result returns)
+entry-spec = tie.close (tie.spec (λ c. search needs) (λ c. search needs) returns)

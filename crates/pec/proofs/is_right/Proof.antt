@@ -7,12 +7,9 @@ use Rattle.pec.specs.Group.{right}
 use Rattle.pec.proofs.is_right.Statement.{statement}
 use Rattle.pec.proofs.is_right.Tie as tie
 
-off-by-requires : tie.Need-off-by-requires
-off-by-requires c κs = search needs
-
 returns : tie.Need-returns
 unfolding right
 returns c = ap (λ (x : ℕ). eqb x 0) (c .off-by .ensures)
 
 pub is-right-spec : {M : Type 1} → statement M
-is-right-spec = tie.close (tie.spec off-by-requires returns)
+is-right-spec = tie.close (tie.spec (λ c κs. search needs) returns)

@@ -10,32 +10,8 @@ use Rattle.pec.proofs.Group.{off-law}
 use Rattle.pec.proofs.off_by.Statement.{statement}
 use Rattle.pec.proofs.off_by.Tie as tie
 
-sub-n : tie.Need-sub-n
-sub-n c = search needs
-
-sub-pec-by : tie.Need-sub-pec-by
-sub-pec-by c = search needs
-
-part-pec-by-start : tie.Need-part-pec-by-start
-part-pec-by-start c = search needs
-
-part-pec-by-end : tie.Need-part-pec-by-end
-part-pec-by-end c = search needs
-
-pec-by-requires : tie.Need-pec-by-requires
-pec-by-requires c κs = search needs
-
-shared-slice-read-sent : tie.Need-shared-slice-read-sent
-shared-slice-read-sent c = search needs
-
 cast-sent : tie.Need-cast-sent
 cast-sent c = omega (arith, c .shared-slice-known2 .given (length (c .before .before .before .before .args .group .now) - 2))
-
-add-sent : tie.Need-add-sent
-add-sent c = search needs
-
-shared-slice-read-sent-2 : tie.Need-shared-slice-read-sent-2
-shared-slice-read-sent-2 c = search needs
 
 cast-sent-2 : tie.Need-cast-sent-2
 cast-sent-2 c = omega (arith, c .shared-slice-known3 .given (length (c .before .before .before .before .before .args .group .now) - 2 + 1))
@@ -54,14 +30,14 @@ pub off-by-spec : {M : Type 1} → statement M
 off-by-spec =
     tie.close
     (tie.spec
-    sub-n
-    sub-pec-by
-    part-pec-by-start
-    part-pec-by-end
-    pec-by-requires
-    shared-slice-read-sent
+    (λ c. search needs)
+    (λ c. search needs)
+    (λ c. search needs)
+    (λ c. search needs)
+    (λ c κs. search needs)
+    (λ c. search needs)
     cast-sent
-    add-sent
-    shared-slice-read-sent-2
+    (λ c. search needs)
+    (λ c. search needs)
     cast-sent-2
     returns)

@@ -25,9 +25,6 @@ loop-holds : tie.Need-loop-holds Inv-loop μ-loop
 unfolding remainderOf
 loop-holds c = (omega arith, refl)
 
-shared-slice-read-top : tie.Need-shared-slice-read-top Inv-loop μ-loop
-shared-slice-read-top c = omega arith
-
 cast-top : tie.Need-cast-top Inv-loop μ-loop
 cast-top c = omega (arith, c .shared-slice-known2 .given (c .before .before .loop .i))
 
@@ -36,12 +33,6 @@ cast-entry c = omega (arith, index-lt _ _ _ (c .before .before .loop .inv .1) (b
 
 entry-requires : tie.Need-entry-requires Inv-loop μ-loop
 entry-requires c κs = (c .before .before .before .before .pre, index-lt _ _ _ (c .before .before .loop .inv .1) (byte c))
-
-add-i : tie.Need-add-i Inv-loop μ-loop
-add-i c = omega arith
-
-loop-less : tie.Need-loop-less Inv-loop μ-loop
-loop-less c = omega arith
 
 loop-again : tie.Need-loop-again Inv-loop μ-loop
 loop-again c =
@@ -57,11 +48,11 @@ pec-by-spec =
     Inv-loop
     μ-loop
     loop-holds
-    shared-slice-read-top
+    (λ c. omega arith)
     cast-top
     cast-entry
     entry-requires
-    add-i
-    loop-less
+    (λ c. omega arith)
+    (λ c. omega arith)
     loop-again
     returns)

@@ -19,41 +19,20 @@ Inv-loop n group count state₀ size k₀ bit₀ state k bit =
 abbrev μ-loop : tie.MeasureT-loop
 μ-loop n group count state₀ size k₀ bit₀ state k bit = n - k
 
-mul-size : tie.Need-mul-size Inv-loop μ-loop
-mul-size c = omega arith
-
 loop-holds : tie.Need-loop-holds Inv-loop μ-loop
 unfolding cleared
 loop-holds c = (omega arith, refl, refl, refl)
-
-spot-requires : tie.Need-spot-requires Inv-loop μ-loop
-spot-requires c κs = omega arith
 
 add-fill : tie.Need-add-fill Inv-loop μ-loop
 add-fill c =
     let a = c .before .before .before .before .args in
     omega (arith, size-most (a .n) (omega arith), room-at (a .n) _ _ (a .count) _ (c .spot .ensures) (omega arith) (omega arith))
 
-sub-fill : tie.Need-sub-fill Inv-loop μ-loop
-sub-fill c = omega arith
-
-part-fill-start : tie.Need-part-fill-start Inv-loop μ-loop
-part-fill-start c = omega arith
-
 part-fill-end : tie.Need-part-fill-end Inv-loop μ-loop
 part-fill-end c = omega (arith, room-at (c .before .before .before .before .args .n) _ _ (c .before .before .before .before .args .count) _ (c .spot .ensures) (omega arith) (omega arith))
 
-fill-requires : tie.Need-fill-requires Inv-loop μ-loop
-fill-requires c κs = omega arith
-
 mul-bit : tie.Need-mul-bit Inv-loop μ-loop
 mul-bit c = omega (arith, c .before .before .before .before .before .before .loop .inv .1, bit-small (c .before .before .before .before .before .before .before .before .args .n) (c .before .before .before .before .before .before .loop .k) (omega arith) (omega arith))
-
-add-k : tie.Need-add-k Inv-loop μ-loop
-add-k c = omega arith
-
-loop-less : tie.Need-loop-less Inv-loop μ-loop
-loop-less c = omega arith
 
 loop-again : tie.Need-loop-again Inv-loop μ-loop
 loop-again c =
@@ -73,9 +52,6 @@ sub-result c = omega (arith, c .before .loop .inv .1, pow-pos (c .before .loop .
 cast-result : tie.Need-cast-result Inv-loop μ-loop
 cast-result c = omega (arith, c .before .loop .inv .1, pow-pos (c .before .loop .k), pow-most (c .before .loop .k) (omega arith))
 
-same-length : tie.Need-same-length Inv-loop μ-loop
-same-length c = omega arith
-
 returns : tie.Need-returns Inv-loop μ-loop
 returns c =
     let a = c .before .before .before .args in
@@ -91,19 +67,19 @@ clear-groups-spec =
     (tie.spec
     Inv-loop
     μ-loop
-    mul-size
+    (λ c. omega arith)
     loop-holds
-    spot-requires
+    (λ c κs. omega arith)
     add-fill
-    sub-fill
-    part-fill-start
+    (λ c. omega arith)
+    (λ c. omega arith)
     part-fill-end
-    fill-requires
+    (λ c κs. omega arith)
     mul-bit
-    add-k
-    loop-less
+    (λ c. omega arith)
+    (λ c. omega arith)
     loop-again
     sub-result
     cast-result
-    same-length
+    (λ c. omega arith)
     returns)

@@ -21,46 +21,16 @@ loop-holds : tie.Need-loop-holds Inv-loop μ-loop
 unfolding answers
 loop-holds c = (omega arith, refl, over-none _)
 
-spot-requires : tie.Need-spot-requires Inv-loop μ-loop
-spot-requires c κs = omega arith
-
-mul-at : tie.Need-mul-at Inv-loop μ-loop
-mul-at c = omega arith
-
 add-put-group : tie.Need-add-put-group Inv-loop μ-loop
 add-put-group c =
     let a = c .before .before .before .before .before .args in
     omega (arith, size-most (a .n) (omega arith), room-at (a .n) _ _ 1 _ (c .spot .ensures) (omega arith) (omega arith))
 
-sub-put-group : tie.Need-sub-put-group Inv-loop μ-loop
-sub-put-group c = omega arith
-
-part-put-group-start : tie.Need-part-put-group-start Inv-loop μ-loop
-part-put-group-start c = omega arith
-
 part-put-group-end : tie.Need-part-put-group-end Inv-loop μ-loop
 part-put-group-end c = omega (arith, room-at (c .before .before .before .before .before .args .n) _ _ 1 _ (c .spot .ensures) (omega arith) (omega arith))
 
-add-put-group-2 : tie.Need-add-put-group-2 Inv-loop μ-loop
-add-put-group-2 c = omega arith
-
-sub-put-group-2 : tie.Need-sub-put-group-2 Inv-loop μ-loop
-sub-put-group-2 c = omega arith
-
-part-put-group-start-2 : tie.Need-part-put-group-start-2 Inv-loop μ-loop
-part-put-group-start-2 c = omega arith
-
-part-put-group-end-2 : tie.Need-part-put-group-end-2 Inv-loop μ-loop
-part-put-group-end-2 c = omega arith
-
 put-group-requires : tie.Need-put-group-requires Inv-loop μ-loop
 put-group-requires c κs = (c .before .before .before .before .before .before .before .pre .0, omega arith, omega arith)
-
-add-k : tie.Need-add-k Inv-loop μ-loop
-add-k c = omega arith
-
-loop-less : tie.Need-loop-less Inv-loop μ-loop
-loop-less c = omega arith
 
 loop-again : tie.Need-loop-again Inv-loop μ-loop
 loop-again c =
@@ -70,9 +40,6 @@ loop-again c =
     let t = turn (a .n) (a .group) (a .state .now) (omega arith) (start .pre .3) (l .k) (c .before .before .before .before .before .spot .result) (a .part .now) (l .part) (c .before .before .put-group .last .1 .1 .0)
     (omega arith) (c .before .before .before .before .before .spot .ensures) (omega arith) (l .inv .2) (c .before .before .put-group .ensures) in
     (omega arith, t .0, t .1)
-
-same-length : tie.Need-same-length Inv-loop μ-loop
-same-length c = omega arith
 
 returns : tie.Need-returns Inv-loop μ-loop
 returns c =
@@ -92,19 +59,19 @@ put-answers-spec =
     Inv-loop
     μ-loop
     loop-holds
-    spot-requires
-    mul-at
+    (λ c κs. omega arith)
+    (λ c. omega arith)
     add-put-group
-    sub-put-group
-    part-put-group-start
+    (λ c. omega arith)
+    (λ c. omega arith)
     part-put-group-end
-    add-put-group-2
-    sub-put-group-2
-    part-put-group-start-2
-    part-put-group-end-2
+    (λ c. omega arith)
+    (λ c. omega arith)
+    (λ c. omega arith)
+    (λ c. omega arith)
     put-group-requires
-    add-k
-    loop-less
+    (λ c. omega arith)
+    (λ c. omega arith)
     loop-again
-    same-length
+    (λ c. omega arith)
     returns)

@@ -5,12 +5,9 @@ use Rattle.chain.specs.State.{stateLength}
 use Rattle.chain.proofs.state.state_length.Statement.{statement}
 use Rattle.chain.proofs.state.state_length.Tie as tie
 
-mul-result : tie.Need-mul-result
-mul-result c = search needs
-
 returns : tie.Need-returns
 unfolding stateLength
 returns c = refl
 
 pub state-length-spec : {M : Type 1} → statement M
-state-length-spec = tie.close (tie.spec mul-result returns)
+state-length-spec = tie.close (tie.spec (λ c. search needs) returns)

@@ -25,33 +25,6 @@ loop-holds : tie.Need-loop-holds Inv-loop μ-loop
 unfolding written storedBits bitsWhere
 loop-holds c = (omega arith, refl, refl, refl, refl)
 
-spot-requires : tie.Need-spot-requires Inv-loop μ-loop
-spot-requires c κs = omega arith
-
-sub-from : tie.Need-sub-from Inv-loop μ-loop
-sub-from c = omega arith
-
-sub-from-2 : tie.Need-sub-from-2 Inv-loop μ-loop
-sub-from-2 c = omega arith
-
-mul-from : tie.Need-mul-from Inv-loop μ-loop
-mul-from c = omega arith
-
-add-from : tie.Need-add-from Inv-loop μ-loop
-add-from c = omega arith
-
-add-take-group : tie.Need-add-take-group Inv-loop μ-loop
-add-take-group c = omega arith
-
-sub-take-group : tie.Need-sub-take-group Inv-loop μ-loop
-sub-take-group c = omega arith
-
-part-take-group-start : tie.Need-part-take-group-start Inv-loop μ-loop
-part-take-group-start c = omega arith
-
-part-take-group-end : tie.Need-part-take-group-end Inv-loop μ-loop
-part-take-group-end c = omega arith
-
 cast-take-group : tie.Need-cast-take-group Inv-loop μ-loop
 cast-take-group c = omega (arith, c .before .before .before .loop .inv .1, bit-small (c .before .before .before .before .before .before .args .n) (c .before .before .before .loop .k) (omega arith) (omega arith))
 
@@ -59,12 +32,6 @@ add-take-group-2 : tie.Need-add-take-group-2 Inv-loop μ-loop
 add-take-group-2 c =
     let a = c .before .before .before .before .before .before .args in
     omega (arith, size-most (a .n) (omega arith), room-at (a .n) _ _ 1 _ (c .before .spot .ensures) (omega arith) (omega arith))
-
-sub-take-group-2 : tie.Need-sub-take-group-2 Inv-loop μ-loop
-sub-take-group-2 c = omega arith
-
-part-take-group-start-2 : tie.Need-part-take-group-start-2 Inv-loop μ-loop
-part-take-group-start-2 c = omega arith
 
 part-take-group-end-2 : tie.Need-part-take-group-end-2 Inv-loop μ-loop
 part-take-group-end-2 c = omega (arith, room-at (c .before .before .before .before .before .before .args .n) _ _ 1 _ (c .before .spot .ensures) (omega arith) (omega arith))
@@ -89,12 +56,6 @@ add-word c =
 mul-bit : tie.Need-mul-bit Inv-loop μ-loop
 mul-bit c = omega (arith, c .before .before .before .before .before .before .before .loop .inv .1, bit-small (c .before .before .before .before .before .before .before .before .before .before .args .n) (c .before .before .before .before .before .before .before .loop .k) (omega arith) (omega arith))
 
-add-k : tie.Need-add-k Inv-loop μ-loop
-add-k c = omega arith
-
-loop-less : tie.Need-loop-less Inv-loop μ-loop
-loop-less c = omega arith
-
 loop-again : tie.Need-loop-again Inv-loop μ-loop
 loop-again c =
     let start = c .before .before .before .before .before .before .before .before .before .before in
@@ -109,9 +70,6 @@ loop-again c =
       same-len-mid at (at + 6 - at) (l .state) (t .last .1 .1 .1 .0) (t .kept .1 .1 .1 .0) ∙ l .inv .3,
       turn (a .n) (l .k) (a .group) at from (a .frame .now) (a .state .now) (l .state) (t .last .1 .1 .1 .0) (omega arith) (start .pre .3) (c .before .before .before .before .before .spot .ensures) refl (l .inv .4) (t .ensures .1),
     )
-
-same-length : tie.Need-same-length Inv-loop μ-loop
-same-length c = omega arith
 
 returns : tie.Need-returns Inv-loop μ-loop
 returns c =
@@ -129,25 +87,25 @@ store-groups-spec =
     Inv-loop
     μ-loop
     loop-holds
-    spot-requires
-    sub-from
-    sub-from-2
-    mul-from
-    add-from
-    add-take-group
-    sub-take-group
-    part-take-group-start
-    part-take-group-end
+    (λ c κs. omega arith)
+    (λ c. omega arith)
+    (λ c. omega arith)
+    (λ c. omega arith)
+    (λ c. omega arith)
+    (λ c. omega arith)
+    (λ c. omega arith)
+    (λ c. omega arith)
+    (λ c. omega arith)
     cast-take-group
     add-take-group-2
-    sub-take-group-2
-    part-take-group-start-2
+    (λ c. omega arith)
+    (λ c. omega arith)
     part-take-group-end-2
     take-group-requires
     add-word
     mul-bit
-    add-k
-    loop-less
+    (λ c. omega arith)
+    (λ c. omega arith)
     loop-again
-    same-length
+    (λ c. omega arith)
     returns)

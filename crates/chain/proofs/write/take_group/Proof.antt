@@ -9,24 +9,6 @@ use Rattle.lent.proofs.Over.{over-full}
 use Rattle.chain.proofs.write.take_group.Statement.{statement}
 use Rattle.chain.proofs.write.take_group.Tie as tie
 
-is-right-requires : tie.Need-is-right-requires
-is-right-requires c κs = search needs
-
-sub-copy-six : tie.Need-sub-copy-six
-sub-copy-six c = search needs
-
-part-copy-six-start : tie.Need-part-copy-six-start
-part-copy-six-start c = search needs
-
-part-copy-six-end : tie.Need-part-copy-six-end
-part-copy-six-end c = search needs
-
-copy-six-requires : tie.Need-copy-six-requires
-copy-six-requires c κs = search needs
-
-same-length : tie.Need-same-length
-same-length c = search needs
-
 returns : tie.Need-returns
 unfolding pick
 returns c =
@@ -43,11 +25,11 @@ pub take-group-spec : {M : Type 1} → statement M
 take-group-spec =
     tie.close
     (tie.spec
-    is-right-requires
-    sub-copy-six
-    part-copy-six-start
-    part-copy-six-end
-    copy-six-requires
-    same-length
+    (λ c κs. search needs)
+    (λ c. search needs)
+    (λ c. search needs)
+    (λ c. search needs)
+    (λ c κs. search needs)
+    (λ c. search needs)
     returns
     returns-2)

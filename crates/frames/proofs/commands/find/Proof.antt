@@ -18,18 +18,6 @@ loop-holds : tie.Need-loop-holds Inv-loop μ-loop
 unfolding rows
 loop-holds c = (omega arith, refl, refl)
 
-mul-if1 : tie.Need-mul-if1 Inv-loop μ-loop
-mul-if1 c = omega arith
-
-array-read-if1 : tie.Need-array-read-if1 Inv-loop μ-loop
-array-read-if1 c = omega arith
-
-array-read-t13 : tie.Need-array-read-t13 Inv-loop μ-loop
-array-read-t13 c = omega arith
-
-array-read-t17 : tie.Need-array-read-t17 Inv-loop μ-loop
-array-read-t17 c = omega arith
-
 returns : tie.Need-returns Inv-loop μ-loop
 unfolding kindOf groupOf rows
 returns c =
@@ -38,12 +26,6 @@ returns c =
       List·getD-map (λ (r : Row). r .kind) rows (l .i) (row 0 0 0) ∙ sym (ap (λ (r : Row). r .kind) e),
       List·getD-map (λ (r : Row). r .group) rows (l .i) (row 0 0 0) ∙ sym (ap (λ (r : Row). r .group) e),
     )
-
-add-i : tie.Need-add-i Inv-loop μ-loop
-add-i c = omega arith
-
-loop-less : tie.Need-loop-less Inv-loop μ-loop
-loop-less c = omega arith
 
 loop-again : tie.Need-loop-again Inv-loop μ-loop
 unfolding rows
@@ -65,12 +47,12 @@ find-spec =
     Inv-loop
     μ-loop
     loop-holds
-    mul-if1
-    array-read-if1
-    array-read-t13
-    array-read-t17
+    (λ c. omega arith)
+    (λ c. omega arith)
+    (λ c. omega arith)
+    (λ c. omega arith)
     returns
-    add-i
-    loop-less
+    (λ c. omega arith)
+    (λ c. omega arith)
     loop-again
     returns-2)

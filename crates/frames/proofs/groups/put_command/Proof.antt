@@ -7,39 +7,6 @@ use Rattle.frames.proofs.GroupLaws.{four-stored}
 use Rattle.frames.proofs.groups.put_command.Statement.{statement}
 use Rattle.frames.proofs.groups.put_command.Tie as tie
 
-cast-high : tie.Need-cast-high
-cast-high c = search needs
-
-cast-low : tie.Need-cast-low
-cast-low c = search needs
-
-slice-aggregate-pec-by : tie.Need-slice-aggregate-pec-by
-slice-aggregate-pec-by c = search needs
-
-pec-by-requires : tie.Need-pec-by-requires
-pec-by-requires c κs = search needs
-
-slice-write-part : tie.Need-slice-write-part
-slice-write-part c = search needs
-
-slice-write-part-2 : tie.Need-slice-write-part-2
-slice-write-part-2 c = search needs
-
-cast-part : tie.Need-cast-part
-cast-part c = search needs
-
-slice-write-part-3 : tie.Need-slice-write-part-3
-slice-write-part-3 c = search needs
-
-cast-part-2 : tie.Need-cast-part-2
-cast-part-2 c = search needs
-
-slice-write-part-4 : tie.Need-slice-write-part-4
-slice-write-part-4 c = search needs
-
-same-length : tie.Need-same-length
-same-length c = search needs
-
 returns : tie.Need-returns
 unfolding withPec twoBytes
 returns c =
@@ -52,15 +19,15 @@ pub put-command-spec : {M : Type 1} → statement M
 put-command-spec =
     tie.close
     (tie.spec
-    cast-high
-    cast-low
-    slice-aggregate-pec-by
-    pec-by-requires
-    slice-write-part
-    slice-write-part-2
-    cast-part
-    slice-write-part-3
-    cast-part-2
-    slice-write-part-4
-    same-length
+    (λ c. search needs)
+    (λ c. search needs)
+    (λ c. search needs)
+    (λ c κs. search needs)
+    (λ c. search needs)
+    (λ c. search needs)
+    (λ c. search needs)
+    (λ c. search needs)
+    (λ c. search needs)
+    (λ c. search needs)
+    (λ c. search needs)
     returns)

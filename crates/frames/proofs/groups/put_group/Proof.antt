@@ -6,26 +6,8 @@ use Rattle.frames.proofs.GroupLaws.{group-put}
 use Rattle.frames.proofs.groups.put_group.Statement.{statement}
 use Rattle.frames.proofs.groups.put_group.Tie as tie
 
-copy-six-requires : tie.Need-copy-six-requires
-copy-six-requires c κs = search needs
-
-pec-by-requires : tie.Need-pec-by-requires
-pec-by-requires c κs = search needs
-
-cast-part : tie.Need-cast-part
-cast-part c = search needs
-
-slice-write-part : tie.Need-slice-write-part
-slice-write-part c = search needs
-
-cast-part-2 : tie.Need-cast-part-2
-cast-part-2 c = search needs
-
 slice-write-part-2 : tie.Need-slice-write-part-2
 slice-write-part-2 c = simp length-set (omega arith)
-
-same-length : tie.Need-same-length
-same-length c = search needs
 
 returns : tie.Need-returns
 returns c =
@@ -38,11 +20,11 @@ pub put-group-spec : {M : Type 1} → statement M
 put-group-spec =
     tie.close
     (tie.spec
-    copy-six-requires
-    pec-by-requires
-    cast-part
-    slice-write-part
-    cast-part-2
+    (λ c κs. search needs)
+    (λ c κs. search needs)
+    (λ c. search needs)
+    (λ c. search needs)
+    (λ c. search needs)
     slice-write-part-2
-    same-length
+    (λ c. search needs)
     returns)

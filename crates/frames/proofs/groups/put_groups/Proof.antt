@@ -24,44 +24,8 @@ abbrev μ-loop : tie.MeasureT-loop
 loop-holds : tie.Need-loop-holds Inv-loop μ-loop
 loop-holds c = (omega arith, omega arith, refl, upto-none _ _, refl)
 
-sub-k : tie.Need-sub-k Inv-loop μ-loop
-sub-k c = omega arith
-
-mul-from : tie.Need-mul-from Inv-loop μ-loop
-mul-from c = omega arith
-
-add-put-group : tie.Need-add-put-group Inv-loop μ-loop
-add-put-group c = omega arith
-
-sub-put-group : tie.Need-sub-put-group Inv-loop μ-loop
-sub-put-group c = omega arith
-
-part-put-group-start : tie.Need-part-put-group-start Inv-loop μ-loop
-part-put-group-start c = omega arith
-
-part-put-group-end : tie.Need-part-put-group-end Inv-loop μ-loop
-part-put-group-end c = omega arith
-
-add-put-group-2 : tie.Need-add-put-group-2 Inv-loop μ-loop
-add-put-group-2 c = omega arith
-
-sub-put-group-2 : tie.Need-sub-put-group-2 Inv-loop μ-loop
-sub-put-group-2 c = omega arith
-
-part-put-group-start-2 : tie.Need-part-put-group-start-2 Inv-loop μ-loop
-part-put-group-start-2 c = omega arith
-
-part-put-group-end-2 : tie.Need-part-put-group-end-2 Inv-loop μ-loop
-part-put-group-end-2 c = omega arith
-
 put-group-requires : tie.Need-put-group-requires Inv-loop μ-loop
 put-group-requires c κs = (c .before .before .before .before .before .before .pre .0, omega arith, omega arith)
-
-add-at : tie.Need-add-at Inv-loop μ-loop
-add-at c = omega arith
-
-loop-less : tie.Need-loop-less Inv-loop μ-loop
-loop-less c = omega arith
 
 loop-again : tie.Need-loop-again Inv-loop μ-loop
 loop-again c =
@@ -72,9 +36,6 @@ loop-again c =
     let t = turn (a .n) (l .k) (l .at) (a .bytes .now) (a .part .now) (l .part) (put .last .1 .1 .0)
     (omega arith) (omega arith) (omega arith) (omega arith) (omega arith) (l .inv .3) (l .inv .4) (put .ensures) in
     (omega arith, omega arith, t .0, t .1, t .2)
-
-same-length : tie.Need-same-length Inv-loop μ-loop
-same-length c = omega arith
 
 returns : tie.Need-returns Inv-loop μ-loop
 returns c =
@@ -89,19 +50,19 @@ put-groups-spec =
     Inv-loop
     μ-loop
     loop-holds
-    sub-k
-    mul-from
-    add-put-group
-    sub-put-group
-    part-put-group-start
-    part-put-group-end
-    add-put-group-2
-    sub-put-group-2
-    part-put-group-start-2
-    part-put-group-end-2
+    (λ c. omega arith)
+    (λ c. omega arith)
+    (λ c. omega arith)
+    (λ c. omega arith)
+    (λ c. omega arith)
+    (λ c. omega arith)
+    (λ c. omega arith)
+    (λ c. omega arith)
+    (λ c. omega arith)
+    (λ c. omega arith)
     put-group-requires
-    add-at
-    loop-less
+    (λ c. omega arith)
+    (λ c. omega arith)
     loop-again
-    same-length
+    (λ c. omega arith)
     returns)

@@ -5,12 +5,6 @@ use Rattle.frames.proofs.KindCases.{length-clear, length-long}
 use Rattle.frames.proofs.writer.frame_length.Statement.{statement}
 use Rattle.frames.proofs.writer.frame_length.Tie as tie
 
-mul-result : tie.Need-mul-result
-mul-result c = search needs
-
-add-result : tie.Need-add-result
-add-result c = search needs
-
 returns : tie.Need-returns
 returns c = sym (length-clear _ _ (c .if1 .taken))
 
@@ -18,4 +12,4 @@ returns-2 : tie.Need-returns-2
 returns-2 c = sym (length-long _ _ (c .if1 .left))
 
 pub frame-length-spec : {M : Type 1} → statement M
-frame-length-spec = tie.close (tie.spec mul-result add-result returns returns-2)
+frame-length-spec = tie.close (tie.spec (λ c. search needs) (λ c. search needs) returns returns-2)

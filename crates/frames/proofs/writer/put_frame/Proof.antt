@@ -13,15 +13,6 @@ use Rattle.frames.proofs.FrameLaws.{frame-with, frame-alone}
 use Rattle.frames.proofs.writer.put_frame.Statement.{statement}
 use Rattle.frames.proofs.writer.put_frame.Tie as tie
 
-table-requires : tie.Need-table-requires
-table-requires c κs = search needs
-
-sub-put-command : tie.Need-sub-put-command
-sub-put-command c = search needs
-
-part-put-command-start : tie.Need-part-put-command-start
-part-put-command-start c = search needs
-
 part-put-command-end : tie.Need-part-put-command-end
 part-put-command-end c = omega (arith, length-least (c .before .before .before .before .args .n) (c .before .before .before .before .args .kind))
 
@@ -29,18 +20,6 @@ put-command-requires : tie.Need-put-command-requires
 put-command-requires c κs =
     let a = c .before .before .before .before .before .args in
     (c .before .before .table .ensures, omega (arith, known-below (a .code) (λ e. omega arith)), omega arith)
-
-mul-end : tie.Need-mul-end
-mul-end c = search needs
-
-add-end : tie.Need-add-end
-add-end c = search needs
-
-sub-put-groups : tie.Need-sub-put-groups
-sub-put-groups c = search needs
-
-part-put-groups-start : tie.Need-part-put-groups-start
-part-put-groups-start c = search needs
 
 part-put-groups-end : tie.Need-part-put-groups-end
 part-put-groups-end c = omega (arith, length-long (c .before .before .before .before .before .before .before .before .before .before .args .n) (c .before .before .before .before .before .before .before .before .before .before .args .kind) (λ h. omega arith))
@@ -50,20 +29,8 @@ put-groups-requires c κs =
     let a = c .before .before .before .before .before .before .before .before .before .before .before .args in
     (c .before .before .before .before .before .before .before .before .table .ensures, omega arith, omega (arith, needs-data (a .n) (a .kind) (c .before .before .if1 .taken)), omega arith)
 
-sub-fill : tie.Need-sub-fill
-sub-fill c = search needs
-
-part-fill-start : tie.Need-part-fill-start
-part-fill-start c = search needs
-
 part-fill-end : tie.Need-part-fill-end
 part-fill-end c = omega (arith, length-long (c .before .before .before .before .before .before .before .before .before .before .args .n) (c .before .before .before .before .before .before .before .before .before .before .args .kind) (λ h. omega arith))
-
-fill-requires : tie.Need-fill-requires
-fill-requires c κs = search needs
-
-same-length : tie.Need-same-length
-same-length c = search needs
 
 returns : tie.Need-returns
 unfolding twoBytes
@@ -79,9 +46,6 @@ returns c =
     (omega arith)
     (omega arith)
 
-same-length-2 : tie.Need-same-length-2
-same-length-2 c = search needs
-
 returns-2 : tie.Need-returns-2
 unfolding twoBytes
 returns-2 c =
@@ -96,9 +60,6 @@ returns-2 c =
     (omega arith)
     (omega arith)
 
-same-length-3 : tie.Need-same-length-3
-same-length-3 c = search needs
-
 returns-3 : tie.Need-returns-3
 unfolding twoBytes
 returns-3 c =
@@ -112,24 +73,24 @@ pub put-frame-spec : {M : Type 1} → statement M
 put-frame-spec =
     tie.close
     (tie.spec
-    table-requires
-    sub-put-command
-    part-put-command-start
+    (λ c κs. search needs)
+    (λ c. search needs)
+    (λ c. search needs)
     part-put-command-end
     put-command-requires
-    mul-end
-    add-end
-    sub-put-groups
-    part-put-groups-start
+    (λ c. search needs)
+    (λ c. search needs)
+    (λ c. search needs)
+    (λ c. search needs)
     part-put-groups-end
     put-groups-requires
-    sub-fill
-    part-fill-start
+    (λ c. search needs)
+    (λ c. search needs)
     part-fill-end
-    fill-requires
-    same-length
+    (λ c κs. search needs)
+    (λ c. search needs)
     returns
-    same-length-2
+    (λ c. search needs)
     returns-2
-    same-length-3
+    (λ c. search needs)
     returns-3)

@@ -8,14 +8,8 @@ use Rattle.frames.proofs.Numbers.{number-1, number-2, number-3, number-
 use Rattle.frames.proofs.writer.write.Statement.{statement}
 use Rattle.frames.proofs.writer.write.Tie as tie
 
-outside-requires : tie.Need-outside-requires
-outside-requires c κs = search needs
-
 returns : tie.Need-returns
 returns c = refused _ _ _ _ 1 refl (number-1 _ _ _ _ (sym (c .before .outside .ensures) ∙ c .if1 .taken))
-
-find-requires : tie.Need-find-requires
-find-requires c κs = search needs
 
 returns-2 : tie.Need-returns-2
 returns-2 c =
@@ -48,9 +42,6 @@ put-frame-requires c κs = (
   omega (arith, c .before .before .frame-length .ensures),
 )
 
-same-length : tie.Need-same-length
-same-length c = search needs
-
 returns-5 : tie.Need-returns-5
 returns-5 c =
     let inside = sym (c .before .before .before .before .before .before .before .before .before .before .before .outside .ensures) ∙ c .before .before .before .before .before .before .before .before .before .before .if1 .left in
@@ -63,14 +54,14 @@ pub write-spec : {M : Type 1} → statement M
 write-spec =
     tie.close
     (tie.spec
-    outside-requires
+    (λ c κs. search needs)
     returns
-    find-requires
+    (λ c κs. search needs)
     returns-2
     data-needed-requires
     returns-3
     frame-length-requires
     returns-4
     put-frame-requires
-    same-length
+    (λ c. search needs)
     returns-5)

@@ -6,14 +6,8 @@ use lib.Pow.{shl-exact}
 use Rattle.host.proofs.cells.bit.Statement.{statement}
 use Rattle.host.proofs.cells.bit.Tie as tie
 
-cast-result : tie.Need-cast-result
-cast-result c = search needs
-
-shl-result : tie.Need-shl-result
-shl-result c = search needs
-
 returns : tie.Need-returns
 returns c = shl-exact 1 (c .args .cell) 32 (omega arith) (omega arith) ∙ omega arith
 
 pub bit-spec : {M : Type 1} → statement M
-bit-spec = tie.close (tie.spec cast-result shl-result returns)
+bit-spec = tie.close (tie.spec (λ c. search needs) (λ c. search needs) returns)

@@ -7,23 +7,8 @@ use Rattle.host.specs.Cells.{countAt}
 use Rattle.host.proofs.cells.count.Statement.{statement}
 use Rattle.host.proofs.cells.count.Tie as tie
 
-mul-low : tie.Need-mul-low
-mul-low c = search needs
-
-shared-slice-read-low : tie.Need-shared-slice-read-low
-shared-slice-read-low c = search needs
-
 cast-low : tie.Need-cast-low
 cast-low c = omega (arith, c .shared-slice-known .given (2 * c .before .before .args .cell))
-
-mul-high : tie.Need-mul-high
-mul-high c = search needs
-
-add-high : tie.Need-add-high
-add-high c = search needs
-
-shared-slice-read-high : tie.Need-shared-slice-read-high
-shared-slice-read-high c = search needs
 
 cast-high : tie.Need-cast-high
 cast-high c = omega (arith, c .shared-slice-known2 .given (2 * c .before .before .before .args .cell + 1))
@@ -50,12 +35,12 @@ pub count-spec : {M : Type 1} → statement M
 count-spec =
     tie.close
     (tie.spec
-    mul-low
-    shared-slice-read-low
+    (λ c. search needs)
+    (λ c. search needs)
     cast-low
-    mul-high
-    add-high
-    shared-slice-read-high
+    (λ c. search needs)
+    (λ c. search needs)
+    (λ c. search needs)
     cast-high
     mul-result
     add-result

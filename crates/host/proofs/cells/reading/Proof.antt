@@ -20,23 +20,11 @@ Inv-loop groups marks counts₀ valid₀ cell₀ counts valid cell =
 abbrev μ-loop : tie.MeasureT-loop
 μ-loop groups marks counts₀ valid₀ cell₀ counts valid cell = 18 - cell
 
-refused-requires : tie.Need-refused-requires Inv-loop μ-loop
-refused-requires c κs = omega arith
-
 returns : tie.Need-returns Inv-loop μ-loop
 returns c = groups-wrong _ _ _ (c .refused .ensures) (c .before .if1 .taken)
 
-refused-requires-2 : tie.Need-refused-requires-2 Inv-loop μ-loop
-refused-requires-2 c κs = omega arith
-
 returns-2 : tie.Need-returns-2 Inv-loop μ-loop
 returns-2 c = marks-wrong _ _ _ (c .refused2 .ensures) (c .before .before .if1 .left) (c .before .if2 .taken)
-
-any-above-requires : tie.Need-any-above-requires Inv-loop μ-loop
-any-above-requires c κs = omega arith
-
-refused-requires-3 : tie.Need-refused-requires-3 Inv-loop μ-loop
-refused-requires-3 c κs = omega arith
 
 returns-3 : tie.Need-returns-3 Inv-loop μ-loop
 returns-3 c =
@@ -47,32 +35,11 @@ loop-holds : tie.Need-loop-holds Inv-loop μ-loop
 unfolding countsOf bitsOf bitsWhere
 loop-holds c = (omega arith, over-none _, refl)
 
-is-valid-requires : tie.Need-is-valid-requires Inv-loop μ-loop
-is-valid-requires c κs = omega arith
-
-count-requires : tie.Need-count-requires Inv-loop μ-loop
-count-requires c κs = omega arith
-
-mul-counts : tie.Need-mul-counts Inv-loop μ-loop
-mul-counts c = omega arith
-
-array-write-counts : tie.Need-array-write-counts Inv-loop μ-loop
-array-write-counts c = omega arith
-
-bit-requires : tie.Need-bit-requires Inv-loop μ-loop
-bit-requires c κs = omega arith
-
 add-valid : tie.Need-add-valid Inv-loop μ-loop
 add-valid c =
     let l = c .before .before .before .before .before .loop in
     let ok = c .before .before .before .is-valid in
     omega (arith, fits _ (l .cell) _ (ok .result) (ok .ensures) (l .inv .2) _ (c .bit .ensures) (c .before .if4 .taken) (c .before .before .before .before .loop-test .taken))
-
-add-cell : tie.Need-add-cell Inv-loop μ-loop
-add-cell c = omega arith
-
-loop-less : tie.Need-loop-less Inv-loop μ-loop
-loop-less c = omega arith
 
 loop-again : tie.Need-loop-again Inv-loop μ-loop
 loop-again c =
@@ -106,21 +73,21 @@ reading-spec =
     (tie.spec
     Inv-loop
     μ-loop
-    refused-requires
+    (λ c κs. omega arith)
     returns
-    refused-requires-2
+    (λ c κs. omega arith)
     returns-2
-    any-above-requires
-    refused-requires-3
+    (λ c κs. omega arith)
+    (λ c κs. omega arith)
     returns-3
     loop-holds
-    is-valid-requires
-    count-requires
-    mul-counts
-    array-write-counts
-    bit-requires
+    (λ c κs. omega arith)
+    (λ c κs. omega arith)
+    (λ c. omega arith)
+    (λ c. omega arith)
+    (λ c κs. omega arith)
     add-valid
-    add-cell
-    loop-less
+    (λ c. omega arith)
+    (λ c. omega arith)
     loop-again
     returns-4)

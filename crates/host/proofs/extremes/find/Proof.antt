@@ -18,18 +18,6 @@ loop-holds : tie.Need-loop-holds Inv-loop μ-loop
 unfolding outmost
 loop-holds c = (omega arith, omega arith, refl)
 
-is-taken-requires : tie.Need-is-taken-requires Inv-loop μ-loop
-is-taken-requires c κs = omega arith
-
-add-best : tie.Need-add-best Inv-loop μ-loop
-add-best c = omega arith
-
-add-cell : tie.Need-add-cell Inv-loop μ-loop
-add-cell c = omega arith
-
-loop-less : tie.Need-loop-less Inv-loop μ-loop
-loop-less c = omega arith
-
 loop-again : tie.Need-loop-again Inv-loop μ-loop
 loop-again c =
     let l = c .before .before .before .loop in
@@ -52,9 +40,9 @@ find-spec =
     Inv-loop
     μ-loop
     loop-holds
-    is-taken-requires
-    add-best
-    add-cell
-    loop-less
+    (λ c κs. omega arith)
+    (λ c. omega arith)
+    (λ c. omega arith)
+    (λ c. omega arith)
     loop-again
     returns)

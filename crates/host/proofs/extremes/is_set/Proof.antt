@@ -5,15 +5,9 @@ use borrow.Author.Needs.{needs}
 use Rattle.host.proofs.extremes.is_set.Statement.{statement}
 use Rattle.host.proofs.extremes.is_set.Tie as tie
 
-cast-result : tie.Need-cast-result
-cast-result c = search needs
-
-shr-result : tie.Need-shr-result
-shr-result c = search needs
-
 returns : tie.Need-returns
 unfolding isSet
 returns c = refl
 
 pub is-set-spec : {M : Type 1} → statement M
-is-set-spec = tie.close (tie.spec cast-result shr-result returns)
+is-set-spec = tie.close (tie.spec (λ c. search needs) (λ c. search needs) returns)

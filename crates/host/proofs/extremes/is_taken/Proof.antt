@@ -6,9 +6,6 @@ use borrow.Author.Needs.{needs}
 use Rattle.host.proofs.extremes.is_taken.Statement.{statement}
 use Rattle.host.proofs.extremes.is_taken.Tie as tie
 
-is-set-requires : tie.Need-is-set-requires
-is-set-requires c κs = search needs
-
 returns : tie.Need-returns
 unfolding takes
 returns c = simp (sym (c .before .is-set .ensures) ∙ not-true (c .before .is-set .result) (c .if1 .taken))
@@ -17,24 +14,6 @@ returns-2 : tie.Need-returns-2
 unfolding takes
 returns-2 c =
     simp (sym (c .before .before .is-set .ensures) ∙ not-false (c .before .before .is-set .result) (c .before .if1 .left), eq-eqb _ _ (c .if2 .taken))
-
-mul-is-further : tie.Need-mul-is-further
-mul-is-further c = search needs
-
-element-copy-out-is-further : tie.Need-element-copy-out-is-further
-element-copy-out-is-further c = search needs
-
-sub-is-further : tie.Need-sub-is-further
-sub-is-further c = search needs
-
-mul-is-further-2 : tie.Need-mul-is-further-2
-mul-is-further-2 c = search needs
-
-element-copy-out-is-further-2 : tie.Need-element-copy-out-is-further-2
-element-copy-out-is-further-2 c = search needs
-
-is-further-requires : tie.Need-is-further-requires
-is-further-requires c κs = search needs
 
 returns-3 : tie.Need-returns-3
 unfolding takes countOfCell
@@ -49,13 +28,13 @@ pub is-taken-spec : {M : Type 1} → statement M
 is-taken-spec =
     tie.close
     (tie.spec
-    is-set-requires
+    (λ c κs. search needs)
     returns
     returns-2
-    mul-is-further
-    element-copy-out-is-further
-    sub-is-further
-    mul-is-further-2
-    element-copy-out-is-further-2
-    is-further-requires
+    (λ c. search needs)
+    (λ c. search needs)
+    (λ c. search needs)
+    (λ c. search needs)
+    (λ c. search needs)
+    (λ c κs. search needs)
     returns-3)

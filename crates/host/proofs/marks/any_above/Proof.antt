@@ -18,19 +18,10 @@ abbrev μ-loop : tie.MeasureT-loop
 loop-holds : tie.Need-loop-holds Inv-loop μ-loop
 loop-holds c = (omega arith, refl)
 
-shared-slice-read-if1 : tie.Need-shared-slice-read-if1 Inv-loop μ-loop
-shared-slice-read-if1 c = omega arith
-
 returns : tie.Need-returns Inv-loop μ-loop
 returns c =
     let marks = c .before .before .before .before .args .marks .now in
     sym (above-here marks (c .before .before .before .loop .i) (c .before .before .loop-test .taken) (c .if1 .taken)) ∙ c .before .before .before .loop .inv .1
-
-add-i : tie.Need-add-i Inv-loop μ-loop
-add-i c = omega arith
-
-loop-less : tie.Need-loop-less Inv-loop μ-loop
-loop-less c = omega arith
 
 loop-again : tie.Need-loop-again Inv-loop μ-loop
 loop-again c =
@@ -45,4 +36,4 @@ returns-2 c = sym (above-none (c .before .before .args .marks .now) (c .before .
 pub any-above-spec : {M : Type 1} → statement M
 any-above-spec =
     tie.close
-    (tie.spec Inv-loop μ-loop loop-holds shared-slice-read-if1 returns add-i loop-less loop-again returns-2)
+    (tie.spec Inv-loop μ-loop loop-holds (λ c. omega arith) returns (λ c. omega arith) (λ c. omega arith) loop-again returns-2)

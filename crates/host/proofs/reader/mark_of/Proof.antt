@@ -11,14 +11,8 @@ use Rattle.host.proofs.reader.mark_of.Tie as tie
 sounds : (c : tie.Else1) → silent (c .before .before .before .args .group .now) ≡ false
 sounds c = sym (c .before .is-silent .ensures) ∙ c .if1 .left
 
-is-silent-requires : tie.Need-is-silent-requires
-is-silent-requires c κs = search needs
-
 returns : tie.Need-returns
 returns c = sym (mark-silent _ (sym (c .before .is-silent .ensures) ∙ c .if1 .taken))
-
-is-right-requires : tie.Need-is-right-requires
-is-right-requires c κs = search needs
 
 returns-2 : tie.Need-returns-2
 returns-2 c = sym (mark-read _ (sounds (c .before .before)) (sym (c .before .is-right .ensures) ∙ c .if2 .taken))
@@ -28,4 +22,4 @@ returns-3 c = sym (mark-wrong _ (sounds (c .before .before)) (sym (c .before .is
 
 pub mark-of-spec : {M : Type 1} → statement M
 mark-of-spec =
-    tie.close (tie.spec is-silent-requires returns is-right-requires returns-2 returns-3)
+    tie.close (tie.spec (λ c κs. search needs) returns (λ c κs. search needs) returns-2 returns-3)

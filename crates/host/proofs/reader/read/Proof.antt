@@ -12,14 +12,8 @@ use Rattle.host.proofs.reader.read.Tie as tie
 inside : (c : tie.Else1) → outside (c .before .before .before .before .before .args .n) ≡ false
 inside c = sym (c .before .outside .ensures) ∙ c .if1 .left
 
-outside-requires : tie.Need-outside-requires
-outside-requires c κs = search needs
-
 returns : tie.Need-returns
 returns c = refused _ _ _ _ _ 1 refl (number-1 _ _ _ _ _ (sym (c .before .outside .ensures) ∙ c .if1 .taken))
-
-find-requires : tie.Need-find-requires
-find-requires c κs = search needs
 
 returns-2 : tie.Need-returns-2
 returns-2 c =
@@ -31,21 +25,12 @@ returns-3 c =
     let found = c .before .before in
     refused _ _ _ _ _ 7 refl (number-7 _ _ _ _ _ (inside (found .before)) _ (found .find .ensures .0) (c .before .if2 .left) (c .if3 .taken))
 
-mul-if4 : tie.Need-mul-if4
-mul-if4 c = search needs
-
-add-if4 : tie.Need-add-if4
-add-if4 c = search needs
-
 returns-4 : tie.Need-returns-4
 returns-4 c =
     let three = c .before in
     let two = three .before in
     let found = two .before in
     refused _ _ _ _ _ 3 refl (number-3 _ _ _ _ _ (inside (found .before)) _ (found .find .ensures .0) (two .if2 .left) (three .if3 .left) (c .if4 .taken))
-
-mul-if5 : tie.Need-mul-if5
-mul-if5 c = search needs
 
 returns-5 : tie.Need-returns-5
 returns-5 c =
@@ -66,9 +51,6 @@ returns-6 c =
     refused _ _ _ _ _ 5 refl
     (number-5-marks _ _ _ _ _ (inside (found .before)) _ (found .find .ensures .0) (two .if2 .left) (three .if3 .left) (four .if4 .left) (five .if5 .left) (c .if6 .taken))
 
-table-requires : tie.Need-table-requires
-table-requires c κs = search needs
-
 read-groups-requires : tie.Need-read-groups-requires
 read-groups-requires c κs = (
   c .before .before .before .table .ensures,
@@ -77,12 +59,6 @@ read-groups-requires c κs = (
   c .before .before .before .before .before .if5 .left,
   c .before .before .before .before .if6 .left,
 )
-
-same-length : tie.Need-same-length
-same-length c = search needs
-
-same-length-2 : tie.Need-same-length-2
-same-length-2 c = search needs
 
 returns-7 : tie.Need-returns-7
 returns-7 c =
@@ -101,19 +77,19 @@ pub read-spec : {M : Type 1} → statement M
 read-spec =
     tie.close
     (tie.spec
-    outside-requires
+    (λ c κs. search needs)
     returns
-    find-requires
+    (λ c κs. search needs)
     returns-2
     returns-3
-    mul-if4
-    add-if4
+    (λ c. search needs)
+    (λ c. search needs)
     returns-4
-    mul-if5
+    (λ c. search needs)
     returns-5
     returns-6
-    table-requires
+    (λ c κs. search needs)
     read-groups-requires
-    same-length
-    same-length-2
+    (λ c. search needs)
+    (λ c. search needs)
     returns-7)

@@ -9,24 +9,6 @@ use Rattle.host.proofs.MarkLaws.{bytes-read, bytes-none}
 use Rattle.host.proofs.reader.read_group.Statement.{statement}
 use Rattle.host.proofs.reader.read_group.Tie as tie
 
-mark-of-requires : tie.Need-mark-of-requires
-mark-of-requires c κs = search needs
-
-sub-copy-six : tie.Need-sub-copy-six
-sub-copy-six c = search needs
-
-part-copy-six-start : tie.Need-part-copy-six-start
-part-copy-six-start c = search needs
-
-part-copy-six-end : tie.Need-part-copy-six-end
-part-copy-six-end c = search needs
-
-copy-six-requires : tie.Need-copy-six-requires
-copy-six-requires c κs = search needs
-
-same-length : tie.Need-same-length
-same-length c = search needs
-
 returns : tie.Need-returns
 returns c =
     let start = c .before .before .before .before .before .before .before .before .before in
@@ -38,12 +20,6 @@ returns c =
           ∙ over-full (take 6 g) (start .args .part .now) (omega arith)
           ∙ sym (bytes-read g (sym (mark .ensures) ∙ c .before .before .before .before .before .if1 .taken)),
     )
-
-fill-requires : tie.Need-fill-requires
-fill-requires c κs = search needs
-
-same-length-2 : tie.Need-same-length-2
-same-length-2 c = search needs
 
 returns-2 : tie.Need-returns-2
 returns-2 c =
@@ -59,13 +35,13 @@ pub read-group-spec : {M : Type 1} → statement M
 read-group-spec =
     tie.close
     (tie.spec
-    mark-of-requires
-    sub-copy-six
-    part-copy-six-start
-    part-copy-six-end
-    copy-six-requires
-    same-length
+    (λ c κs. search needs)
+    (λ c. search needs)
+    (λ c. search needs)
+    (λ c. search needs)
+    (λ c κs. search needs)
+    (λ c. search needs)
     returns
-    fill-requires
-    same-length-2
+    (λ c κs. search needs)
+    (λ c. search needs)
     returns-2)

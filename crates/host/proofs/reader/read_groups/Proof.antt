@@ -26,50 +26,8 @@ loop-holds : tie.Need-loop-holds Inv-loop μ-loop
 unfolding allBytes allMarks
 loop-holds c = (omega arith, refl, refl, over-none _, over-none _)
 
-mul-from : tie.Need-mul-from Inv-loop μ-loop
-mul-from c = omega arith
-
-add-from : tie.Need-add-from Inv-loop μ-loop
-add-from c = omega arith
-
-mul-at : tie.Need-mul-at Inv-loop μ-loop
-mul-at c = omega arith
-
-add-read-group : tie.Need-add-read-group Inv-loop μ-loop
-add-read-group c = omega arith
-
-sub-read-group : tie.Need-sub-read-group Inv-loop μ-loop
-sub-read-group c = omega arith
-
-part-read-group-start : tie.Need-part-read-group-start Inv-loop μ-loop
-part-read-group-start c = omega arith
-
-part-read-group-end : tie.Need-part-read-group-end Inv-loop μ-loop
-part-read-group-end c = omega arith
-
-add-read-group-2 : tie.Need-add-read-group-2 Inv-loop μ-loop
-add-read-group-2 c = omega arith
-
-sub-read-group-2 : tie.Need-sub-read-group-2 Inv-loop μ-loop
-sub-read-group-2 c = omega arith
-
-part-read-group-start-2 : tie.Need-part-read-group-start-2 Inv-loop μ-loop
-part-read-group-start-2 c = omega arith
-
-part-read-group-end-2 : tie.Need-part-read-group-end-2 Inv-loop μ-loop
-part-read-group-end-2 c = omega arith
-
 read-group-requires : tie.Need-read-group-requires Inv-loop μ-loop
 read-group-requires c κs = (c .before .before .before .before .before .before .before .pre .0, omega arith, omega arith)
-
-slice-write-marks : tie.Need-slice-write-marks Inv-loop μ-loop
-slice-write-marks c = omega arith
-
-add-k : tie.Need-add-k Inv-loop μ-loop
-add-k c = omega arith
-
-loop-less : tie.Need-loop-less Inv-loop μ-loop
-loop-less c = omega arith
 
 loop-again : tie.Need-loop-again Inv-loop μ-loop
 loop-again c =
@@ -83,12 +41,6 @@ loop-again c =
       turn-bytes (l .k) (a .reply .now) (a .bytes .now) (l .bytes) (one .last .1 .1 .0) (omega arith) (omega arith) (l .inv .3) (one .ensures .1),
       turn-marks (l .k) (a .reply .now) (a .marks .now) (l .marks) (one .result) (omega arith) (l .inv .4) (one .ensures .0),
     )
-
-same-length : tie.Need-same-length Inv-loop μ-loop
-same-length c = omega arith
-
-same-length-2 : tie.Need-same-length-2 Inv-loop μ-loop
-same-length-2 c = omega arith
 
 returns : tie.Need-returns Inv-loop μ-loop
 returns c =
@@ -106,22 +58,22 @@ read-groups-spec =
     Inv-loop
     μ-loop
     loop-holds
-    mul-from
-    add-from
-    mul-at
-    add-read-group
-    sub-read-group
-    part-read-group-start
-    part-read-group-end
-    add-read-group-2
-    sub-read-group-2
-    part-read-group-start-2
-    part-read-group-end-2
+    (λ c. omega arith)
+    (λ c. omega arith)
+    (λ c. omega arith)
+    (λ c. omega arith)
+    (λ c. omega arith)
+    (λ c. omega arith)
+    (λ c. omega arith)
+    (λ c. omega arith)
+    (λ c. omega arith)
+    (λ c. omega arith)
+    (λ c. omega arith)
     read-group-requires
-    slice-write-marks
-    add-k
-    loop-less
+    (λ c. omega arith)
+    (λ c. omega arith)
+    (λ c. omega arith)
     loop-again
-    same-length
-    same-length-2
+    (λ c. omega arith)
+    (λ c. omega arith)
     returns)

@@ -6,14 +6,8 @@ use Rattle.host.proofs.TallyCases.{refused-1, refused-3, refused-8, add
 use Rattle.host.proofs.tally.add.Statement.{statement}
 use Rattle.host.proofs.tally.add.Tie as tie
 
-outside-requires : tie.Need-outside-requires
-outside-requires c κs = search needs
-
 returns : tie.Need-returns
 returns c = refused-1 _ _ (sym (c .before .outside .ensures) ∙ c .if1 .taken)
-
-any-above-requires : tie.Need-any-above-requires
-any-above-requires c κs = search needs
 
 returns-2 : tie.Need-returns-2
 returns-2 c =
@@ -22,9 +16,6 @@ returns-2 c =
 count-all-requires : tie.Need-count-all-requires
 count-all-requires c κs =
     (at-most _ (sym (c .before .before .before .outside .ensures) ∙ c .before .before .if1 .left), sym (c .before .any-above .ensures) ∙ c .if2 .left)
-
-passes-any-requires : tie.Need-passes-any-requires
-passes-any-requires c κs = search needs
 
 returns-3 : tie.Need-returns-3
 returns-3 c =
@@ -51,12 +42,12 @@ pub add-spec : {M : Type 1} → statement M
 add-spec =
     tie.close
     (tie.spec
-    outside-requires
+    (λ c κs. search needs)
     returns
-    any-above-requires
+    (λ c κs. search needs)
     returns-2
     count-all-requires
-    passes-any-requires
+    (λ c κs. search needs)
     returns-3
     sum-requires
     returns-4)

@@ -6,15 +6,6 @@ use Rattle.host.proofs.Sorts.{sorts, rest}
 use Rattle.host.proofs.tally.count_all.Statement.{statement}
 use Rattle.host.proofs.tally.count_all.Tie as tie
 
-count-requires : tie.Need-count-requires
-count-requires c κs = search needs
-
-count-requires-2 : tie.Need-count-requires-2
-count-requires-2 c κs = search needs
-
-cast-all : tie.Need-cast-all
-cast-all c = search needs
-
 sub-t6 : tie.Need-sub-t6
 sub-t6 c = omega (arith, sorts _ (c .before .before .before .pre .1), c .before .count .ensures)
 
@@ -26,4 +17,4 @@ unfolding counted
 returns c = rw (c .before .count .ensures, c .count2 .ensures, rest _ (c .before .before .before .pre .1))
 
 pub count-all-spec : {M : Type 1} → statement M
-count-all-spec = tie.close (tie.spec count-requires count-requires-2 cast-all sub-t6 sub-t7 returns)
+count-all-spec = tie.close (tie.spec (λ c κs. search needs) (λ c κs. search needs) (λ c. search needs) sub-t6 sub-t7 returns)

@@ -4,11 +4,8 @@ use Rattle.host.proofs.Room.{past-test}
 use Rattle.host.proofs.tally.passes.Statement.{statement}
 use Rattle.host.proofs.tally.passes.Tie as tie
 
-sub-result : tie.Need-sub-result
-sub-result c = search needs
-
 returns : tie.Need-returns
 returns c = past-test _ _ (search needs)
 
 pub passes-spec : {M : Type 1} → statement M
-passes-spec = tie.close (tie.spec sub-result returns)
+passes-spec = tie.close (tie.spec (λ c. search needs) returns)

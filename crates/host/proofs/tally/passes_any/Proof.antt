@@ -5,22 +5,13 @@ use Rattle.host.specs.Tally.{pastAny, plus}
 use Rattle.host.proofs.tally.passes_any.Statement.{statement}
 use Rattle.host.proofs.tally.passes_any.Tie as tie
 
-passes-requires : tie.Need-passes-requires
-passes-requires c κs = search needs
-
 returns : tie.Need-returns
 unfolding pastAny plus
 returns c = simp (sym (c .before .passes .ensures) ∙ c .if1 .taken)
 
-passes-requires-2 : tie.Need-passes-requires-2
-passes-requires-2 c κs = search needs
-
 returns-2 : tie.Need-returns-2
 unfolding pastAny plus
 returns-2 c = simp (sym (c .before .before .before .passes .ensures) ∙ c .before .before .if1 .left, sym (c .before .passes2 .ensures) ∙ c .if2 .taken)
-
-passes-requires-3 : tie.Need-passes-requires-3
-passes-requires-3 c κs = search needs
 
 returns-3 : tie.Need-returns-3
 unfolding pastAny plus
@@ -30,9 +21,6 @@ returns-3 c =
       sym (c .before .before .before .passes2 .ensures) ∙ c .before .before .if2 .left,
       sym (c .before .passes3 .ensures) ∙ c .if3 .taken,
     )
-
-passes-requires-4 : tie.Need-passes-requires-4
-passes-requires-4 c κs = search needs
 
 returns-4 : tie.Need-returns-4
 unfolding pastAny plus
@@ -48,11 +36,11 @@ pub passes-any-spec : {M : Type 1} → statement M
 passes-any-spec =
     tie.close
     (tie.spec
-    passes-requires
+    (λ c κs. search needs)
     returns
-    passes-requires-2
+    (λ c κs. search needs)
     returns-2
-    passes-requires-3
+    (λ c κs. search needs)
     returns-3
-    passes-requires-4
+    (λ c κs. search needs)
     returns-4)

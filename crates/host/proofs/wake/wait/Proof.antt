@@ -7,14 +7,8 @@ use Rattle.host.proofs.WakeCases.{refused, fresh, idle}
 use Rattle.host.proofs.wake.wait.Statement.{statement}
 use Rattle.host.proofs.wake.wait.Tie as tie
 
-outside-requires : tie.Need-outside-requires
-outside-requires c κs = search needs
-
 returns : tie.Need-returns
 returns c = refused _ _ _ (sym (c .before .outside .ensures) ∙ c .if1 .taken)
-
-gap-requires : tie.Need-gap-requires
-gap-requires c κs = search needs
 
 returns-2 : tie.Need-returns-2
 returns-2 c = fresh _ _ _ (sym (c .before .before .before .outside .ensures) ∙ c .before .before .if1 .left) (omega arith)
@@ -27,4 +21,4 @@ returns-3 c = idle _ _ _ (sym (c .before .before .before .outside .ensures) ∙ 
 
 pub wait-spec : {M : Type 1} → statement M
 wait-spec =
-    tie.close (tie.spec outside-requires returns gap-requires returns-2 mul-t6 returns-3)
+    tie.close (tie.spec (λ c κs. search needs) returns (λ c κs. search needs) returns-2 mul-t6 returns-3)
