@@ -75,11 +75,12 @@ module _ (n : ℕ) (frame state reply : List ℕ) where
   unfolding chainWord chainState chainReply pick
   untouched m z f e = record { number = sym e; word = rw z; registers = rw z; answered = rw (z, f) }
 
-  -- a refusal that shows silence
-  pub silent : (m : ℕ) (reply′ : List ℕ) → eqb m 0 ≡ false → fills m ≡ true → chainNumber n frame (length state) (length reply) ≡ m
-      → reply′ ≡ over (silence (length frame)) reply → Serves n frame state reply (record { number = m; word = 0 }) state reply′
+  -- a refusal that shows silence: the part of the reply up to the frame's length was filled
+  pub silent : (m : ℕ) (part : List ℕ) → eqb m 0 ≡ false → fills m ≡ true → length frame ≤ length reply → part ≡ replicate (length (take (length frame - 0) reply)) 255
+      → chainNumber n frame (length state) (length reply) ≡ m
+      → Serves n frame state reply (record { number = m; word = 0 }) state (part ++ drop (length frame - 0) reply)
   unfolding chainWord chainState chainReply pick
-  silent m reply′ z f e w = record { number = sym e; word = rw z; registers = rw z; answered = rw (z, f) w }
+  silent m part z f h p e = record { number = sym e; word = rw z; registers = rw z; answered = rw (z, f) (filled-over frame reply part h p) }
 
   -- done: `obey` on a reply of silence
   pub done : (kind g word : ℕ) (state′ reply′ : List ℕ) → chainNumber n frame (length state) (length reply) ≡ 0 → kind ≡ kindOf (codeOf frame) → g ≡ groupOf (codeOf frame)
