@@ -25,18 +25,17 @@ fn mask(hit: Hit) -> [u8; 132] {
     all
 }
 
+fn place(hit: Hit) {
+    say::decimal(hit.at as u64);
+    say::text(b":");
+    say::hex(hit.flips as u32, 2);
+}
+
 fn ask(n: u32, code: u32, forth: Hit, back: Hit) {
-    say::decimal(n as u64);
+    say::command(n, code);
+    place(forth);
     say::text(b" ");
-    say::hex(code, 3);
-    say::text(b" ");
-    say::decimal(forth.at as u64);
-    say::text(b":");
-    say::hex(forth.flips as u32, 2);
-    say::text(b" ");
-    say::decimal(back.at as u64);
-    say::text(b":");
-    say::hex(back.flips as u32, 2);
+    place(back);
     say::text(b" : ");
 }
 

@@ -45,3 +45,11 @@ pub fn bytes(list: &[u8]) {
         i += 1;
     }
 }
+
+// A command for n devices, and a space.
+pub fn command(n: u32, code: u32) {
+    decimal(n as u64);
+    text(b" ");
+    hex(code, 3);
+    text(b" ");
+}

@@ -3,10 +3,7 @@ ghost use Prim.Native.Nat.{_≤_};
 
 fn run(n: u32, code: u32, reply: &[u8], bytes: &mut [u8], marks: &mut [u8]) {
     say::text(b"read ");
-    say::decimal(n as u64);
-    say::text(b" ");
-    say::hex(code, 3);
-    say::text(b" ");
+    say::command(n, code);
     say::bytes(reply);
     say::text(b" ");
     say::decimal(bytes.len() as u64);

@@ -5,10 +5,7 @@ fn run(n: u32, code: u32, data: &[u8], out: &mut [u8]) {
     let room = out.len();
     let written = frames::writer::write(n, code, data, out);
     say::text(b"write ");
-    say::decimal(n as u64);
-    say::text(b" ");
-    say::hex(code, 3);
-    say::text(b" ");
+    say::command(n, code);
     say::bytes(data);
     say::text(b" ");
     say::decimal(room as u64);
