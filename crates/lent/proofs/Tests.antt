@@ -1,4 +1,4 @@
--- A test computed once over all numbers below n holds at each of them. Assumes nothing.
+-- What tests tell: an "and" and an "or" their halves; and a test computed once over all numbers below n, that it holds at each of them. Assumes nothing.
 use mathlib.Core.Path.{_≡_, refl, sym, ap, _∙_, subst}
 use mathlib.Core.Bool.{Bool, true, false, _&&_, _||_}
 use mathlib.Core.Logic.{_⊎_, inl, inr, ⊎-elim}
