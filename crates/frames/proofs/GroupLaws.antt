@@ -1,13 +1,13 @@
 -- The data groups of a write: how long they are, and one by one. Assumes nothing.
 use mathlib.Core.Path.{_≡_, refl, sym, ap, _∙_}
-use mathlib.Core.List.{List, [], _∷_, _++_}
+use mathlib.Core.List.{List, [], _∷_, _++_, append-nil}
 use Prim.Native.Nat.{ℕ, zero, suc, _+_, _*_, _-_, _≤_, _<_, _/_, _%_}
 use native.Mathlib.Omega.{arith}
-use lib.ListN.{length, take, drop, set, length-append, length-take, length-drop}
-use lib.Seq.{drop-append-le, take-append-le}
+use lib.ListN.{length, take, drop, set, length-append, length-take, length-drop, drop-of-length-le}
+use lib.Seq.{drop-append-le, take-append-le, sets-eq}
 use borrow.Rule.Slice.PartMut.{putMid}
 use Rattle.lent.specs.Memory.{over}
-use Rattle.lent.proofs.Over.{two-more, upto, length-upto, upto-more, rest}
+use Rattle.lent.proofs.Over.{length-over, take-over, upto, length-upto, upto-more, rest}
 use Rattle.pec.specs.Register.{pecOf}
 use Rattle.pec.specs.Group.{twoBytes, withPec}
 use Rattle.pec.proofs.Group.{length-withPec}
@@ -19,16 +19,13 @@ pub group-put : (d part copy : List ℕ) (word : ℕ) → length d ≡ 6 → len
     → set (set copy 6 (word / 256)) 7 (word % 256) ≡ withPec d
 unfolding withPec twoBytes
 group-put d part copy word h k ec ew =
-    let e : length d + 1 ≡ 7 = omega arith in
-    rw (ec, ew, ← h, ← e) (two-more d part (pecOf d / 256) (pecOf d % 256) (omega arith))
+    let long : length (over d part) ≡ 8 = length-over d part (omega arith) ∙ k in
+    rw (ec, ew)
+    (sets-eq (twoBytes (pecOf d)) (over d part) 6 (omega arith) ∙ rw (take-over d part 6 h, drop-of-length-le (over d part) {i = 8} (omega arith), append-nil))
 
 pub four-stored : (part : List ℕ) (a b c d : ℕ) → length part ≡ 4 → set (set (set (set part 0 a) 1 b) 2 c) 3 d ≡ a ∷ b ∷ c ∷ d ∷ []
-four-stored [] a b c d h = absurd (omega arith)
-four-stored (p ∷ []) a b c d h = absurd (omega arith)
-four-stored (p ∷ q ∷ []) a b c d h = absurd (omega arith)
-four-stored (p ∷ q ∷ r ∷ []) a b c d h = absurd (omega arith)
-four-stored (p ∷ q ∷ r ∷ s ∷ []) a b c d h = refl
-four-stored (p ∷ q ∷ r ∷ s ∷ t ∷ u) a b c d h = absurd (omega arith)
+four-stored part a b c d h =
+    sets-eq (a ∷ b ∷ c ∷ d ∷ []) part 0 (omega arith) ∙ ap (λ (l : List ℕ). a ∷ b ∷ c ∷ d ∷ l) (drop-of-length-le part {i = 4} (omega arith))
 
 pub length-six : (k : ℕ) (bytes : List ℕ) → 6 * k + 6 ≤ length bytes → length (six k bytes) ≡ 6
 unfolding six

@@ -4,7 +4,7 @@ use mathlib.Core.List.{List, [], _∷_, _++_, append-assoc, append-nil}
 use Prim.Native.Nat.{ℕ, suc, _+_, _-_, _≤_, _<_}
 use native.Mathlib.Omega.{arith}
 use lib.ListN.{replicate, length-replicate, set, getD, length, take, drop, length-append, length-take, length-drop, drop-of-length-le, List·getD-append}
-use lib.Seq.{append-snoc, take-length, drop-cons, set-at, take-at, drop-at, take-add, drop-drop, length-take-le, take-all}
+use lib.Seq.{append-snoc, drop-cons, set-at, take-at, drop-at, take-add, drop-drop, length-take-le, take-all}
 use borrow.Rule.Slice.PartMut.{putMid}
 use Rattle.lent.specs.Memory.{over}
 
@@ -91,22 +91,6 @@ upto-more new old piece left at to n e t hn ho h =
 -- a part that was filled, by its length
 pub filled : (after : List ℕ) (v m n : ℕ) → after ≡ replicate m v → length after ≡ n → after ≡ replicate n v
 filled after v m n e h = e ∙ ap (λ (k : ℕ). replicate k v) (sym (ap length e ∙ length-replicate m v) ∙ h)
-
--- two bytes after the copy of d, in a part that has room for just these
-pub two-more : (d part : List ℕ) (x y : ℕ) → length part ≡ length d + 2
-    → set (set (over d part) (length d) x) (length d + 1) y ≡ d ++ (x ∷ y ∷ [])
-unfolding over
-two-more d part x y e =
-    let h : length d < length part = omega arith in
-    let k : suc (length d) < length part = omega arith in
-    let none : drop (suc (suc (length d))) part ≡ [] = drop-of-length-le part {i = suc (suc (length d))} (omega arith) in
-    let two : drop (length d) part ≡ getD part (length d) 0 ∷ getD part (suc (length d)) 0 ∷ [] =
-    drop-cons part (length d) 0 h
-    ∙ ap (λ (l : List ℕ). getD part (length d) 0 ∷ l) (drop-cons part (suc (length d)) 0 k ∙ ap (λ (l : List ℕ). getD part (suc (length d)) 0 ∷ l) none) in
-    let one-more : length (d ++ (x ∷ [])) ≡ length d + 1 = length-append d (x ∷ []) in
-    rw (two, set-at d (getD part (length d) 0) (getD part (suc (length d)) 0 ∷ []) x (length d) refl)
-    (rw (← append-snoc d x (getD part (suc (length d)) 0 ∷ []))
-    (set-at (d ++ (x ∷ [])) (getD part (suc (length d)) 0) [] y (length d + 1) one-more ∙ append-snoc d x (y ∷ [])))
 
 -- what was laid over reads back
 pub take-over : (new old : List ℕ) (n : ℕ) → length new ≡ n → take n (over new old) ≡ new
