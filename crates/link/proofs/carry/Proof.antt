@@ -13,9 +13,16 @@ part-lay-noise-end c = omega (arith, written-fits _ _ _ _ _ _ (c .before .before
 part-serve-end : tie.Need-part-serve-end
 part-serve-end c = omega (arith, written-fits _ _ _ _ _ _ (c .before .before .before .before .before .before .before .write .ensures))
 
+-- The calls, each found from the one after it.
 returns : tie.Need-returns
 returns c =
-    let a = c .before .before .before .before .before .before .before .before .before .before .before .before .before .before .before .before .before .before .before .before .before .before .before .before .before .before .before .before .before .before .before .before .before .before .before .before .before .before .before .args in
+    let read = c .before .before .before .before in
+    let noise-back = read .before .before .before .before .before .before .before in
+    let least = noise-back .before .before in
+    let serve = least .before .before .before .before .before in
+    let noise-forth = serve .before .before .before .before .before .before .before in
+    let write = noise-forth .before .before .before .before in
+    let a = write .before .before .before .before .before .before .before .before .before .before .args in
     let s : Sending = record {
       code = a .code;
       bytes = a .bytes .now;
@@ -26,13 +33,14 @@ returns c =
       forth = a .forth .now;
       back = a .back .now;
     } in
-    let wrote = c .before .before .before .before .before .before .before .before .before .before .before .before .before .before .before .before .before .before .before .before .before .before .before .before .before .before .before .before .before .write in
-    let served = c .before .before .before .before .before .before .before .before .before .before .before .before .before .before .before .before .before .before .serve in
-    let given = c .before .before .before .before .read in
-    carried (a .n) s (a .state .now) (wrote .result) (wrote .last .1 .1 .1 .0) (c .before .before .before .before .before .before .before .before .before .before .before .before .before .before .before .before .before .before .before .before .before .before .before .before .before .lay-noise .last .1 .0) (served .result) (served .last .1 .1 .0) (served .last .1 .1 .1 .0)
-    (c .before .before .before .before .before .before .before .before .before .before .before .before .before .least .result) (c .before .before .before .before .before .before .before .before .before .before .before .lay-noise2 .last .1 .0) (given .result) (given .last .1 .1 .1 .0) (given .last .1 .1 .1 .1 .0)
-    (wrote .ensures) (omega (arith, written-fits _ _ _ _ _ _ (wrote .ensures))) (c .before .before .before .before .before .before .before .before .before .before .before .before .before .before .before .before .before .before .before .before .before .before .before .before .before .lay-noise .ensures) (served .ensures) (c .before .before .before .before .before .before .before .before .before .before .before .before .before .least .ensures)
-    (c .before .before .before .before .before .before .before .before .before .before .before .lay-noise2 .ensures) (given .ensures)
+    let wrote = write .write in
+    let forth = noise-forth .lay-noise in
+    let served = serve .serve in
+    let back = noise-back .lay-noise2 in
+    let given = read .read in
+    carried (a .n) s (a .state .now) (wrote .result) (wrote .last .1 .1 .1 .0) (forth .last .1 .0) (served .result) (served .last .1 .1 .0) (served .last .1 .1 .1 .0)
+    (least .least .result) (back .last .1 .0) (given .result) (given .last .1 .1 .1 .0) (given .last .1 .1 .1 .1 .0)
+    (wrote .ensures) (omega (arith, written-fits _ _ _ _ _ _ (wrote .ensures), wrote .kept .1 .1 .1 .0)) (forth .ensures) (served .ensures) (least .least .ensures) (back .ensures) (given .ensures)
 
 pub carry-spec : {M : Type 1} → statement M
 carry-spec =

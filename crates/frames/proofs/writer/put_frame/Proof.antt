@@ -14,7 +14,7 @@ use Rattle.frames.proofs.writer.put_frame.Statement.{statement}
 use Rattle.frames.proofs.writer.put_frame.Tie as tie
 
 part-put-command-end : tie.Need-part-put-command-end
-part-put-command-end c = omega (arith, length-least (c .before .before .before .before .args .n) (c .before .before .before .before .args .kind))
+part-put-command-end c = let a = c .before .before .before .before .args in omega (arith, length-least (a .n) (a .kind))
 
 put-command-requires : tie.Need-put-command-requires
 put-command-requires c κs =
@@ -22,7 +22,7 @@ put-command-requires c κs =
     (c .before .before .table .ensures, omega (arith, known-below (a .code) (λ e. omega arith)), omega arith)
 
 part-put-groups-end : tie.Need-part-put-groups-end
-part-put-groups-end c = omega (arith, length-long (c .before .before .before .before .before .before .before .before .before .before .args .n) (c .before .before .before .before .before .before .before .before .before .before .args .kind) (λ h. omega arith))
+part-put-groups-end c = let a = c .before .before .before .before .before .before .before .before .before .before .args in omega (arith, length-long (a .n) (a .kind) (λ h. omega arith))
 
 put-groups-requires : tie.Need-put-groups-requires
 put-groups-requires c κs =
@@ -30,31 +30,34 @@ put-groups-requires c κs =
     (c .before .before .before .before .before .before .before .before .table .ensures, omega arith, omega (arith, needs-data (a .n) (a .kind) (c .before .before .if1 .taken)), omega arith)
 
 part-fill-end : tie.Need-part-fill-end
-part-fill-end c = omega (arith, length-long (c .before .before .before .before .before .before .before .before .before .before .args .n) (c .before .before .before .before .before .before .before .before .before .before .args .kind) (λ h. omega arith))
+part-fill-end c = let a = c .before .before .before .before .before .before .before .before .before .before .args in omega (arith, length-long (a .n) (a .kind) (λ h. omega arith))
 
 returns : tie.Need-returns
 unfolding twoBytes
 returns c =
-    let start = c .before .before .before .before .before .before .before .before .before .before .before .before .before .before in
+    let put = c .before .before .put-groups in
+    let write = c .before .before .before .before .before in
+    let command = write .before .before .before in
+    let start = command .before .before .before .before .before .before in
     let a = start .args in
     let room = length-long (a .n) (a .kind) (λ h. omega arith) in
-    let six = needs-data (a .n) (a .kind) (c .before .before .before .before .before .if1 .taken) in
-    let put = c .before .before .put-groups in
-    frame-with (a .n) (a .code) (a .kind) (a .bytes .now) (a .out .now) (c .before .before .before .before .before .before .before .before .put-command .last .1 .1 .0) (start .pre .2) (c .before .before .before .before .before .before .before .before .put-command .ensures)
+    let six = needs-data (a .n) (a .kind) (write .if1 .taken) in
+    frame-with (a .n) (a .code) (a .kind) (a .bytes .now) (a .out .now) (command .put-command .last .1 .1 .0) (start .pre .2) (command .put-command .ensures)
     (put .last .1 .1 .1 .0)
-    (body-write (a .n) (a .kind) (a .bytes .now) (c .before .before .before .before .before .if1 .taken) ∙ sym (put .ensures))
+    (body-write (a .n) (a .kind) (a .bytes .now) (write .if1 .taken) ∙ sym (put .ensures))
     (omega arith)
     (omega arith)
 
 returns-2 : tie.Need-returns-2
 unfolding twoBytes
 returns-2 c =
+    let put = c .before .before .before .before .before .before .before .before .put-command in
     let start = c .before .before .before .before .before .before .before .before .before .before .before .before .before .before in
     let a = start .args in
     let room = length-long (a .n) (a .kind) (λ h. omega arith) in
-    let command = c .before .before .before .before .before .before .before .before .put-command .last .1 .1 .0 in
+    let command = put .last .1 .1 .0 in
     let clock = c .before .before .fill .last .0 in
-    frame-with (a .n) (a .code) (a .kind) (a .bytes .now) (a .out .now) command (start .pre .2) (c .before .before .before .before .before .before .before .before .put-command .ensures) clock
+    frame-with (a .n) (a .code) (a .kind) (a .bytes .now) (a .out .now) command (start .pre .2) (put .ensures) clock
     (body-read (a .n) (a .kind) (a .bytes .now) (c .before .before .before .before .if2 .taken)
     ∙ sym (filled clock 255 (length (take (4 + 8 * a .n - 4) (drop 4 (command ++ drop 4 (a .out .now))))) (8 * a .n) (c .before .before .fill .ensures) (omega arith)))
     (omega arith)
