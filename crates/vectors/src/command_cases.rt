@@ -1,4 +1,5 @@
 // The 26 commands by their names in document 002, with their kind, group and command group on the wire.
+ghost use Prim.Native.Nat.{_<_};
 use frames::commands;
 
 fn kind_name(kind: u8) {
@@ -39,15 +40,13 @@ fn last_cleared(code: u32) -> usize {
     last
 }
 
-fn command(code: u32, name: &[u8]) {
+fn command(code: u32, name: &[u8])
+    requires { ⌜ code < 65536 ⌝ }
+{
     let found = commands::find(code);
     let table = pec::table();
     let mut wire = [0u8; 4];
-    frames::groups::put_group(
-        &table,
-        &[(code / 256 % 256) as u8, (code % 256) as u8],
-        &mut wire,
-    );
+    frames::groups::put_command(&table, code, &mut wire);
     say::text(b"command ");
     say::hex(code, 3);
     say::text(b" ");
