@@ -47,9 +47,9 @@ Called n state [] = Unit {0}
 Called n state (c ∷ cs) =
     Carries n (c .sending) state (c .result) (c .out′) (c .state′) (c .reply′) (c .read′) (c .marks′) × Called n (c .state′) cs
 
-abbrev pub sent : List Call → List Sending
-sent [] = []
-sent (c ∷ cs) = c .sending ∷ sent cs
+abbrev pub sendings : List Call → List Sending
+sendings [] = []
+sendings (c ∷ cs) = c .sending ∷ sendings cs
 
 abbrev pub saw : List Call → List Seen
 saw [] = []
@@ -59,4 +59,4 @@ saw (c ∷ cs) = seen (c .result) (c .state′) (c .read′) (c .marks′) ∷ s
 abbrev pub CodeObeys : Type 0
 CodeObeys =
     (n : ℕ) → 1 ≤ n → n ≤ 16 → (state : List ℕ) → Bytes state → length state ≡ stateLength n
-    → (cs : List Call) → AllFair n (sent cs) → Called n state cs → Obeyed ours n state (sent cs) (saw cs)
+    → (cs : List Call) → AllFair n (sendings cs) → Called n state cs → Obeyed ours n state (sendings cs) (saw cs)
