@@ -2,12 +2,12 @@
 # make test      every test and every proof, from nothing; the last line is rt's 'N passed, M failed'
 # make lib       build/librig.a, the C entries of include/rig.h, from the proved crates
 # make dist      build/dist/rig.c and rig.h, the same entries as C99 for any processor, printed from the proved code
-# make test-arm  the tests of rig.c on 32-bit Arm, and its size and stack on a Cortex-M4
+# make test-arm  the C tests of rig.c on 32-bit Arm, and its size and stack on a Cortex-M4; make test-powerpc on a big-endian processor
 # make install   header, archive and rig.pc for pkg-config under PREFIX (default /usr/local)
 # make bench     how long the entries take beside plain C and beside second/ (ARGS=cells: the rows with that in their name)
 # make fuzz      inputs to the C entries as long as one likes (FUZZ=-runs=N: N of them)
 # make fmt       lay out every Rattle, proof and Rust file
-.PHONY: run test test-arm lib dist install bench fuzz fmt need second header against printed sanitized manual readme ctest example entries fuzz_some dist_alone FORCE
+.PHONY: run test test-arm test-powerpc lib dist install bench fuzz fmt need second header against printed sanitized manual readme ctest example entries fuzz_some dist_alone FORCE
 
 PREFIX ?= /usr/local
 VERSION := 1.0.0
@@ -130,8 +130,8 @@ dist_alone: dist readme
 	@gcc -std=c99 -O2 -Wall -Wextra -Wpedantic -Werror -Ibuild/dist examples/*.c build/dist/rig.c -o build/dist/controller
 	@build/dist/controller --polls 200 --seed 7 > build/dist/controller.log 2>&1 || { cat build/dist/controller.log; exit 1; }
 
-test-arm: $(RIG_C) build/readme.c
-	@tests/arm $(RIG_C)
+test-arm test-powerpc: test-%: $(RIG_C) build/readme.c
+	@tests/cross $* $(RIG_C)
 
 # The examples of rig.h, built on an installed library as a user would.
 manual: $(LIB)
