@@ -78,9 +78,13 @@ remainder-snoc : (xs : List ℕ) (x : ℕ) → remainderOf (xs ++ x ∷ []) ≡ 
 unfolding remainderOf
 remainder-snoc xs x = ap (feed 16) (bits-append xs (x ∷ [])) ∙ feed-append (bits xs) (bits8 x) 16
 
--- One turn of the loop, as the code has it: the index into the table, and the next register; and the loop's end.
+-- One turn of the loop, as the code has it: the register's high bits are a byte, and so is the index into the table; the next register; and the
+-- loop's end.
+pub high-lt : (xs : List ℕ) (r : ℕ) → r ≡ remainderOf xs → r / 128 < 256
+high-lt xs r e = let l = remainder-lt xs in omega arith
+
 pub index-lt : (xs : List ℕ) (r x : ℕ) → r ≡ remainderOf xs → x < 256 → bitXor (r / 128) x < 256
-index-lt xs r x e h = let l = remainder-lt xs in xor-lt 8 (r / 128) x (omega arith) h
+index-lt xs r x e h = xor-lt 8 (r / 128) x (high-lt xs r e) h
 
 pub turn : (l : List ℕ) (i r e : ℕ) → i < length l → getD l i 0 < 256 → r ≡ remainderOf (take i l)
     → e ≡ entryOf (bitXor (r / 128) (getD l i 0)) → bitXor (bitAnd (r * 256 % 65536) 32767) e ≡ remainderOf (take (i + 1) l)

@@ -291,7 +291,7 @@ pub fn pec_by(table: &[u16; 256], bytes: &[u8]) -> u16
     let mut r: u16 = 16;
     let mut i: usize = 0;
     while i < bytes.len() {
-        let top = (r >> 7) ^ (bytes[i] as u16);
+        let top = ((r >> 7) as u8) ^ bytes[i];
         r = ((r << 8) & 0x7fff) ^ entry(table, top as usize);
         i += 1;
     }

@@ -4,7 +4,7 @@ use Prim.Native.Nat.{_≤_, _-_, _<_}
 use native.Mathlib.Omega.{arith}
 use lib.ListN.{length, take, getD}
 use Rattle.pec.specs.Register.{remainderOf}
-use Rattle.pec.proofs.Byte.{index-lt, turn, done}
+use Rattle.pec.proofs.Byte.{high-lt, index-lt, turn, done}
 use Rattle.pec.proofs.pec_by.Statement.{statement}
 use Rattle.pec.proofs.pec_by.Tie as tie
 use Rattle.pec.proofs.pec_by.Reads as reads
@@ -26,7 +26,7 @@ unfolding remainderOf
 loop-holds c = (omega arith, refl)
 
 cast-top : tie.Need-cast-top Inv-loop μ-loop
-cast-top c = omega (arith, c .shared-slice-known2 .given (c .before .before .loop .i))
+cast-top c = omega (arith, high-lt _ _ (c .before .loop .inv .1))
 
 cast-entry : tie.Need-cast-entry Inv-loop μ-loop
 cast-entry c = omega (arith, index-lt _ _ _ (c .before .before .loop .inv .1) (byte c))
@@ -48,8 +48,8 @@ pec-by-spec =
     Inv-loop
     μ-loop
     loop-holds
-    (λ c. omega arith)
     cast-top
+    (λ c. omega arith)
     cast-entry
     entry-requires
     (λ c. omega arith)
