@@ -78,26 +78,26 @@ remainder-snoc : (xs : List ℕ) (x : ℕ) → remainderOf (xs ++ x ∷ []) ≡ 
 unfolding remainderOf
 remainder-snoc xs x = ap (feed 16) (bits-append xs (x ∷ [])) ∙ feed-append (bits xs) (bits8 x) 16
 
--- One turn of the loop, as the code has it: the register's high bits are a byte, and so is the index into the table; the next register; and the
--- loop's end.
-pub high-lt : (xs : List ℕ) (r : ℕ) → r ≡ remainderOf xs → r / 128 < 256
-high-lt xs r e = let l = remainder-lt xs in omega arith
+-- One byte, as the code has it: the register's high bits are a byte, and so is the index into the table; and what the register is then.
+pub index-lt : (r x : ℕ) → r < 32768 → x < 256 → bitXor (r / 128) x < 256
+index-lt r x h b = xor-lt 8 (r / 128) x (omega arith) b
 
-pub index-lt : (xs : List ℕ) (r x : ℕ) → r ≡ remainderOf xs → x < 256 → bitXor (r / 128) x < 256
-index-lt xs r x e h = xor-lt 8 (r / 128) x (high-lt xs r e) h
-
-pub turn : (l : List ℕ) (i r e : ℕ) → i < length l → getD l i 0 < 256 → r ≡ remainderOf (take i l)
-    → e ≡ entryOf (bitXor (r / 128) (getD l i 0)) → bitXor (bitAnd (r * 256 % 65536) 32767) e ≡ remainderOf (take (i + 1) l)
-turn l i r e hi hb hr he =
-    let lt = remainder-lt (take i l) in
-    ap₂ bitXor (masked r) he
-    ∙ sym (byte-step r (getD l i 0) (omega arith) hb)
-    ∙ ap (λ (n : ℕ). feed n (bits8 (getD l i 0))) hr
-    ∙ sym (remainder-snoc (take i l) (getD l i 0))
-    ∙ ap remainderOf (sym (take-suc l i 0 hi) ∙ ap (λ (n : ℕ). take n l) (sym (add-one i)))
+pub turned : (r x e : ℕ) → r < 32768 → x < 256 → e ≡ entryOf (bitXor (r / 128) x)
+    → (bitXor (bitAnd (r * 256 % 65536) 32767) e ≡ feed r (bits8 x)) × (bitXor (bitAnd (r * 256 % 65536) 32767) e < 32768)
+turned r x e hr hx he =
+    let same : bitXor (bitAnd (r * 256 % 65536) 32767) e ≡ feed r (bits8 x) = ap₂ bitXor (masked r) he ∙ sym (byte-step r x hr hx) in
+    (same, rw same (feed-lt (bits8 x) r hr))
   where
     masked : (n : ℕ) → bitAnd (n * 256 % 65536) 32767 ≡ n * 256 % 32768
     masked n = and-mask (n * 256 % 65536) 15 ∙ omega arith
+
+-- Byte by byte: the register is the remainder of the bytes passed, then of one byte more; and the end.
+pub next : (l : List ℕ) (i r s : ℕ) → i < length l → r ≡ remainderOf (take i l) → s ≡ feed r (bits8 (getD l i 0)) → s ≡ remainderOf (take (i + 1) l)
+next l i r s hi hr hs =
+    hs
+    ∙ ap (λ (n : ℕ). feed n (bits8 (getD l i 0))) hr
+    ∙ sym (remainder-snoc (take i l) (getD l i 0))
+    ∙ ap remainderOf (sym (take-suc l i 0 hi) ∙ ap (λ (n : ℕ). take n l) (sym (add-one i)))
 
 pub done : (l : List ℕ) (i r : ℕ) → r ≡ remainderOf (take i l) → length l ≤ i → r * 2 % 65536 ≡ pecOf l
 unfolding pecOf
