@@ -27,15 +27,21 @@ struct maker {
     uint8_t (*read)(uint32_t, uint32_t, const uint8_t *, size_t, uint8_t *, size_t, uint8_t *, size_t);
     struct rig_readings (*cells)(const uint8_t *, size_t, const uint8_t *, size_t);
     uint8_t (*tally_add)(struct rig_tally *, const uint8_t *, size_t);
+    struct rig_code (*conversion_code)(uint32_t, uint32_t, uint32_t, uint32_t, uint32_t);
+    struct rig_conversion (*conversion_of)(uint32_t);
 };
 
 enum { ARCHIVE, PRINTED, PLAIN, SECOND };
 
 static const struct maker makers[MAKERS] = {
-    {"archive", rig_pec, rig_write, rig_chain, rig_read, rig_cells, rig_tally_add},
-    {"printed", printed_pec, printed_write, printed_chain, printed_read, printed_cells, printed_tally_add},
-    {"plain", plain_pec, plain_write, plain_chain, plain_read, plain_cells, plain_tally_add},
-    {"second", second_pec, second_write, second_chain, second_read, second_cells, second_tally_add},
+    {"archive", rig_pec, rig_write, rig_chain, rig_read, rig_cells, rig_tally_add,
+     rig_conversion_code, rig_conversion_of},
+    {"printed", printed_pec, printed_write, printed_chain, printed_read, printed_cells, printed_tally_add,
+     printed_conversion_code, printed_conversion_of},
+    {"plain", plain_pec, plain_write, plain_chain, plain_read, plain_cells, plain_tally_add,
+     plain_conversion_code, plain_conversion_of},
+    {"second", second_pec, second_write, second_chain, second_read, second_cells, second_tally_add,
+     second_conversion_code, second_conversion_of},
 };
 
 static const uint32_t writes[6] = {RIG_WRCFGA, RIG_WRCFGB, RIG_WRCOMM, RIG_WRSCTRL, RIG_WRPWM, RIG_WRPSB};
@@ -45,6 +51,8 @@ static const uint32_t reads[6] = {RIG_RDCVA, RIG_RDCVB, RIG_RDCVC, RIG_RDCVD, RI
 static struct {
     uint8_t bytes[LONG_WORD + 8 * SETS];
     uint8_t marks[SETS][16];
+    struct rig_conversion conversions[SETS];
+    uint32_t codes[SETS];
     uint8_t write_frames[6][132], read_frames[6][132], replies[6][132];
 } in;
 
@@ -53,6 +61,7 @@ static struct work {
     uint8_t state[16 * 108], out[132], reply[132], data[96], marks[16];
     struct rig_tally tally;
     struct rig_readings readings;
+    struct rig_conversion conversion;
     uint32_t sum;
 } work;
 
@@ -111,6 +120,25 @@ static void turn_tally(const struct maker *m, uint32_t n, size_t turns)
         work.sum += m->tally_add(&work.tally, in.marks[i % SETS], n);
 }
 
+static void turn_conversion_code(const struct maker *m, uint32_t n, size_t turns)
+{
+    (void)n;
+    for (size_t i = 0; i < turns; i++) {
+        const struct rig_conversion *f = &in.conversions[i % SETS];
+        struct rig_code c = m->conversion_code(f->command, f->mode, f->discharge, f->pull_up, f->choice);
+        work.sum += c.number + c.code;
+    }
+}
+
+static void turn_conversion_of(const struct maker *m, uint32_t n, size_t turns)
+{
+    (void)n;
+    for (size_t i = 0; i < turns; i++) {
+        work.conversion = m->conversion_of(in.codes[i % SETS]);
+        work.sum += work.conversion.number;
+    }
+}
+
 static const struct row {
     const char *name;
     turn_fn *turn;
@@ -131,6 +159,8 @@ static const struct row {
     {"cells of one device", turn_cells, 1, 1.1, 0},
     {"tally, N = 1", turn_tally, 1, 0, 0},
     {"tally, N = 16", turn_tally, 16, 1.1, 0},
+    {"conversion code", turn_conversion_code, 1, 0, 0},
+    {"conversion of a code", turn_conversion_of, 1, 0, 0},
 };
 
 enum { ROWS = sizeof rows / sizeof *rows };
@@ -143,6 +173,19 @@ static uint32_t random_byte(void)
     return x >> 24;
 }
 
+/* Conversions of every command in turn, with fields at random, and their codes. */
+static void make_conversions(void)
+{
+    for (uint32_t i = 0; i < SETS;) {
+        struct rig_conversion f = {0, i % 13, random_byte() % 4, random_byte() % 2, random_byte() % 2, random_byte() % 7};
+        struct rig_code c = plain_conversion_code(f.command, f.mode, f.discharge, f.pull_up, f.choice);
+        if (c.number == 0) {
+            in.conversions[i] = f;
+            in.codes[i++] = c.code;
+        }
+    }
+}
+
 /* Bytes at random; of the marks about one in eight is not 0. */
 static void make_inputs(void)
 {
@@ -151,6 +194,7 @@ static void make_inputs(void)
     for (size_t i = 0; i < SETS; i++)
         for (size_t k = 0; k < 16; k++)
             in.marks[i][k] = (uint8_t)(random_byte() % 8 ? 0 : 1 + random_byte() % 2);
+    make_conversions();
 }
 
 /* Frames for n devices, a state of random bytes, and the replies to the reads of that state. */
@@ -180,12 +224,18 @@ static int same_tally(const struct rig_tally *a, const struct rig_tally *b)
     return a->replies == b->replies && a->read == b->read && a->wrong == b->wrong && a->silent == b->silent;
 }
 
+static int same_conversion(const struct rig_conversion *a, const struct rig_conversion *b)
+{
+    return a->number == b->number && a->command == b->command && a->mode == b->mode && a->discharge == b->discharge &&
+           a->pull_up == b->pull_up && a->choice == b->choice;
+}
+
 static int same_work(const struct work *a, const struct work *b)
 {
     return !memcmp(a->state, b->state, sizeof a->state) && !memcmp(a->out, b->out, sizeof a->out) &&
            !memcmp(a->reply, b->reply, sizeof a->reply) && !memcmp(a->data, b->data, sizeof a->data) &&
            !memcmp(a->marks, b->marks, sizeof a->marks) && same_readings(&a->readings, &b->readings) &&
-           same_tally(&a->tally, &b->tally) && a->sum == b->sum;
+           same_tally(&a->tally, &b->tally) && same_conversion(&a->conversion, &b->conversion) && a->sum == b->sum;
 }
 
 /* Every maker gives the same on the inputs that are timed, after each count of turns up to SETS. */

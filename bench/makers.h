@@ -13,7 +13,10 @@
     uint8_t name##_read(uint32_t n, uint32_t code, const uint8_t *reply, size_t reply_len, uint8_t *data, size_t data_len,        \
                         uint8_t *marks, size_t marks_len);                                                                        \
     struct rig_readings name##_cells(const uint8_t *groups, size_t groups_len, const uint8_t *marks, size_t marks_len);           \
-    uint8_t name##_tally_add(struct rig_tally *tally, const uint8_t *marks, size_t marks_len)
+    uint8_t name##_tally_add(struct rig_tally *tally, const uint8_t *marks, size_t marks_len);                                    \
+    struct rig_code name##_conversion_code(uint32_t command, uint32_t mode, uint32_t discharge, uint32_t pull_up,                 \
+                                           uint32_t choice);                                                                      \
+    struct rig_conversion name##_conversion_of(uint32_t code)
 
 MAKER(plain);
 MAKER(printed);

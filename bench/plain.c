@@ -1,4 +1,4 @@
-/* The rig's entries in plain C, written the obvious way: a table of 256 remainders, a search in the table of commands, memcpy and
+/* The rig's entries in plain C, written the obvious way: a table of 256 remainders, a search in the tables of commands, memcpy and
    memset. It is what the benchmark holds the archive against, and no part of it. */
 #include "makers.h"
 
@@ -40,7 +40,7 @@ static const uint16_t table[256] = {
     0x5368, 0x16f1, 0x1dc3, 0x585a, 0x0ba7, 0x4e3e, 0x450c, 0x0095,
 };
 
-enum kind { UNKNOWN, WRITE, READ, CLEAR };
+enum kind { UNKNOWN, WRITE, READ, CLEAR, CONVERT };
 
 struct command {
     uint16_t code;
@@ -56,14 +56,62 @@ static const struct command commands[26] = {
     {0x711, CLEAR, 2},  {0x712, CLEAR, 8},
 };
 
+/* A conversion command: its code with every field 0, the highest discharge and pull-up, the bits of its choice, and its ends. */
+static const struct conversion {
+    uint16_t base;
+    uint8_t discharge, pull_up, choice, shift, least, most;
+} conversions[13] = {
+    {0x260, 1, 0, 0x07, 0, 0, 6}, {0x228, 1, 1, 0x07, 0, 0, 6}, {0x207, 0, 0, 0x60, 5, 1, 2}, {0x201, 1, 0, 0x00, 0, 0, 0},
+    {0x460, 0, 0, 0x07, 0, 0, 6}, {0x400, 0, 0, 0x07, 0, 0, 6}, {0x410, 0, 1, 0x07, 0, 0, 6}, {0x407, 0, 0, 0x60, 5, 1, 2},
+    {0x468, 0, 0, 0x07, 0, 0, 4}, {0x408, 0, 0, 0x07, 0, 0, 4}, {0x40F, 0, 0, 0x60, 5, 1, 2}, {0x46F, 1, 0, 0x00, 0, 0, 0},
+    {0x467, 1, 0, 0x00, 0, 0, 0},
+};
+
+struct rig_code plain_conversion_code(uint32_t command, uint32_t mode, uint32_t discharge, uint32_t pull_up, uint32_t choice)
+{
+    struct rig_code code = {9, 0};
+
+    if (command > 12 || mode > 3)
+        return code;
+    const struct conversion *c = &conversions[command];
+    if (discharge > c->discharge || pull_up > c->pull_up || choice < c->least || choice > c->most)
+        return code;
+    code.number = 0;
+    code.code = (uint16_t)(c->base + (mode << 7) + (discharge << 4) + (pull_up << 6) + (choice << c->shift));
+    return code;
+}
+
+struct rig_conversion plain_conversion_of(uint32_t code)
+{
+    struct rig_conversion taken = {2, 0, 0, 0, 0, 0};
+
+    for (uint32_t i = 0; i < 13; i++) {
+        const struct conversion *c = &conversions[i];
+        uint32_t fields = 0x180u | (uint32_t)c->discharge << 4 | (uint32_t)c->pull_up << 6 | c->choice;
+        uint32_t choice = (code & c->choice) >> c->shift;
+        if ((code & ~fields) == c->base && choice >= c->least && choice <= c->most) {
+            taken.number = 0;
+            taken.command = i;
+            taken.mode = code >> 7 & 3;
+            taken.discharge = code >> 4 & c->discharge;
+            taken.pull_up = code >> 6 & c->pull_up;
+            taken.choice = choice;
+            break;
+        }
+    }
+    return taken;
+}
+
 static struct command find(uint32_t code)
 {
-    static const struct command unknown = {0, UNKNOWN, 0};
+    struct command found = {0, UNKNOWN, 0};
 
     for (size_t i = 0; i < 26; i++)
         if (commands[i].code == code)
             return commands[i];
-    return unknown;
+    if (plain_conversion_of(code).number == 0)
+        found.kind = CONVERT;
+    return found;
 }
 
 uint16_t plain_pec(const uint8_t *bytes, size_t bytes_len)
@@ -93,7 +141,7 @@ static int is_right(const uint8_t *group, size_t count)
 
 static size_t frame_length(uint32_t n, uint8_t kind)
 {
-    return kind == CLEAR ? 4 : 4 + 8 * (size_t)n;
+    return kind == CLEAR || kind == CONVERT ? 4 : 4 + 8 * (size_t)n;
 }
 
 static struct rig_written written(uint8_t number, size_t length)
@@ -147,13 +195,12 @@ static uint16_t store(uint32_t n, uint8_t group, const uint8_t *frame, uint8_t *
     return word;
 }
 
-static uint16_t clear(uint32_t n, uint8_t group, uint8_t *state)
+static void clear(uint32_t n, uint8_t group, uint8_t *state)
 {
     size_t count = group == 2 ? 6 : 4;
 
     for (uint32_t k = 0; k < n; k++)
         memset(state + 108 * k + 6 * group, 0xff, 6 * count);
-    return (uint16_t)((1u << n) - 1);
 }
 
 struct rig_heard plain_chain(uint32_t n, const uint8_t *frame, size_t frame_len, uint8_t *state, size_t state_len,
@@ -178,11 +225,14 @@ struct rig_heard plain_chain(uint32_t n, const uint8_t *frame, size_t frame_len,
 
     if (command.kind == WRITE)
         return heard(0, store(n, command.group, frame, state));
+    if (command.kind == READ) {
+        for (uint32_t k = 0; k < n; k++)
+            put_group(reply + 4 + 8 * k, state + 108 * k + 6 * command.group, 6);
+        return heard(0, 0);
+    }
     if (command.kind == CLEAR)
-        return heard(0, clear(n, command.group, state));
-    for (uint32_t k = 0; k < n; k++)
-        put_group(reply + 4 + 8 * k, state + 108 * k + 6 * command.group, 6);
-    return heard(0, 0);
+        clear(n, command.group, state);
+    return heard(0, (uint16_t)((1u << n) - 1));
 }
 
 static int is_silent(const uint8_t *group)

@@ -9,5 +9,7 @@
 #define rig_cells printed_cells
 #define rig_tally_add printed_tally_add
 #define rig_wake printed_wake
+#define rig_conversion_code printed_conversion_code
+#define rig_conversion_of printed_conversion_of
 
 #endif

@@ -1,5 +1,6 @@
-/* A controller over rig.h: it configures a chain of cell monitors, polls the cells of every device over a noisy wire, and shows what
-   each device reported. The chain is simulated by rig_chain and the wire by wire.c; the rest is what a builder's controller does. */
+/* A controller over rig.h: it configures a chain of cell monitors, starts conversions, polls the cells of every device over a noisy
+   wire, and shows what each device reported. The chain is simulated by rig_chain and the wire by wire.c; the rest is what a
+   builder's controller does. */
 #include "controller.h"
 
 #include <stdio.h>
@@ -7,6 +8,9 @@
 #include <string.h>
 
 enum { POLL_EVERY = 100000, MICROSECONDS_A_BYTE = 8, CELL_GROUPS = 6, MOST_TRIES = 1000, PROGRESS = 100000 };
+
+/* ADCV of all cells at 7 kHz takes at most 2,488 microseconds (tCYCLE) where the reference is on, as our CFGA has it. */
+enum { NORMAL = 2, ALL_CELLS = 0, CONVERSION_TIME = 2488 };
 
 static const uint32_t read_cells[CELL_GROUPS] = {RIG_RDCVA, RIG_RDCVB, RIG_RDCVC,
                                                   RIG_RDCVD, RIG_RDCVE, RIG_RDCVF};
@@ -58,7 +62,7 @@ static void want_promise(const struct controller *c, uint32_t hit, uint32_t took
     }
 }
 
-/* One frame over the wire, at the clock's time. `data` is in device order; a read takes none. */
+/* One frame over the wire, at the clock's time. `data` is in device order; all but a write take none. */
 static struct trip send_frame(struct controller *c, enum way way, uint32_t code, const uint8_t *data, uint8_t *reply)
 {
     uint8_t frame[RIG_FRAME_BYTES(RIG_DEVICES)];
@@ -113,8 +117,8 @@ static void configure(struct controller *c, uint32_t write_code, uint32_t read_c
     }
 }
 
-/* Conversions are not built, so the cells are laid into the registers: each at its own level, with a small stir at each poll. */
-static void charge_cells(struct controller *c)
+/* What the devices measure is laid into their registers, as rig_chain measures nothing: each cell at its own level, with a small stir. */
+static void measure_cells(struct controller *c)
 {
     for (uint32_t k = 0; k < c->options.devices; k++)
         for (uint32_t cell = 0; cell < RIG_CELLS; cell++) {
@@ -124,6 +128,24 @@ static void charge_cells(struct controller *c)
             at[0] = (uint8_t)count;
             at[1] = (uint8_t)(count >> 8);
         }
+}
+
+/* Every device is to measure its cells. The line stays silent, so a controller does not see who heard it. */
+static void start_conversion(struct controller *c)
+{
+    uint8_t silence[RIG_COMMAND_BYTES];
+    struct rig_code adcv = rig_conversion_code(RIG_CONVERT_ADCV, NORMAL, 0, 0, ALL_CELLS);
+    struct trip trip;
+
+    want_done("rig_conversion_code", adcv.number);
+    trip = send_frame(c, WAY_COMMAND, adcv.code, NULL, silence);
+    want_promise(c, trip.hit, trip.heard.word);
+    if (trip.heard.number == RIG_DONE) {
+        measure_cells(c);
+        c->heard++;
+    }
+    c->conversions++;
+    c->clock += CONVERSION_TIME;
 }
 
 /* A valid cell has to be what the device holds. */
@@ -184,11 +206,12 @@ static void run(struct controller *c)
 
     configure(c, RIG_WRCFGA, RIG_RDCFGA, cfga);
     configure(c, RIG_WRCFGB, RIG_RDCFGB, cfgb);
+    measure_cells(c); /* what the devices have from before: a conversion that is lost leaves it */
     due = c->clock;
     for (uint32_t i = 1; i <= c->options.polls; i++) {
         due += POLL_EVERY;
         c->clock = due;
-        charge_cells(c);
+        start_conversion(c);
         poll_cells(c);
         if (i % PROGRESS == 0)
             fprintf(stderr, "controller: %u of %u polls\n", i, c->options.polls);

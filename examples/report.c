@@ -89,6 +89,8 @@ void report(const struct controller *c)
            old.right_dropped);
     if (c->options.devices <= 10)
         puts("In a chain of up to ten devices more than nine in ten is all of them, so that the old rule keeps no wrong group there.");
+    printf("Conversions: %u sent (ADCV), one before each poll; every device heard %u, and no device the other %u.\n",
+           c->conversions, c->heard, c->conversions - c->heard);
     printf("Link tally: %u replies (configuration included), %u groups read, %u wrong, %u silent.\n", c->tally.replies, c->tally.read,
            c->tally.wrong, c->tally.silent);
     printf("Wake: %u of %u frames waited for the port, %llu us in all. Configured in %u rounds of write and read back.\n", c->waits,

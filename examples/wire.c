@@ -69,14 +69,13 @@ static uint32_t odds_at(const struct wire *wire, uint32_t device)
     return (uint32_t)(FAR_END * part4 * part4);
 }
 
-/* Noise on one way. In a write the first group is device N's, in all else device 1's. */
-static uint32_t disturb(struct wire *wire, uint8_t *bytes, int far_first)
+/* Noise on one way, on the command group and `groups` others. In a write the first of them is device N's, in all else device 1's. */
+static uint32_t disturb(struct wire *wire, uint8_t *bytes, uint32_t groups, int far_first)
 {
-    uint32_t n = wire->devices;
     uint32_t hit = may_hit(wire, COMMAND, bytes, 32) ? 1 : 0;
 
-    for (uint32_t k = 1; k <= n; k++) {
-        uint8_t *group = bytes + 4 + 8 * (far_first ? n - k : k - 1);
+    for (uint32_t k = 1; k <= groups; k++) {
+        uint8_t *group = bytes + 4 + 8 * (far_first ? groups - k : k - 1);
         if (may_hit(wire, odds_at(wire, k), group, 64))
             hit |= (uint32_t)1 << k;
     }
@@ -85,16 +84,17 @@ static uint32_t disturb(struct wire *wire, uint8_t *bytes, int far_first)
 
 struct trip wire_carry(struct wire *wire, enum way way, uint8_t *frame, uint8_t *state, uint8_t *reply)
 {
-    uint32_t n = wire->devices, out = 0, back = 0;
+    uint32_t n = wire->devices, groups = way == WAY_COMMAND ? 0 : n, out = 0, back = 0;
+    size_t length = RIG_FRAME_BYTES(groups);
     int outward = wire_random(wire, 4) == 0;
     int noisy = wire->noise != NOISE_NONE, both = wire->noise == NOISE_WILD;
     struct trip trip;
 
     if (noisy && (outward || both))
-        out = disturb(wire, frame, way == WAY_WRITE);
-    trip.heard = rig_chain(n, frame, RIG_FRAME_BYTES(n), state, RIG_STATE_BYTES(n), reply, RIG_FRAME_BYTES(n));
+        out = disturb(wire, frame, groups, way == WAY_WRITE);
+    trip.heard = rig_chain(n, frame, length, state, RIG_STATE_BYTES(n), reply, length);
     if (noisy && (!outward || both))
-        back = disturb(wire, reply, 0);
+        back = disturb(wire, reply, groups, 0);
     /* The clock bytes of a read on the way out, and on the way back all but the groups of a read, are looked at by nobody. */
     trip.hit = way == WAY_WRITE ? out : (out & 1) | (back & ~(uint32_t)1);
     return trip;

@@ -23,15 +23,15 @@ struct trip {
     uint32_t hit;
 };
 
-enum way { WAY_WRITE, WAY_READ };
+enum way { WAY_WRITE, WAY_READ, WAY_COMMAND }; /* the last: a command group alone, a clear or a conversion */
 
 void wire_start(struct wire *wire, enum noise noise, uint32_t devices, uint32_t seed);
 
 /* A number below `limit`, from the wire's own seeded row. */
 uint32_t wire_random(struct wire *wire, uint32_t limit);
 
-/* The frame goes out, the chain serves it on `state`, and `reply` comes back: 4 + 8N bytes either way. The frame is left as the
-   chain heard it. */
+/* The frame goes out, the chain serves it on `state`, and `reply` comes back: 4 + 8N bytes either way, or 4 of a command group
+   alone. The frame is left as the chain heard it. */
 struct trip wire_carry(struct wire *wire, enum way way, uint8_t *frame, uint8_t *state, uint8_t *reply);
 
 #endif

@@ -1,5 +1,6 @@
 /* rig.h: the chain rig in C. A model of 1 to 16 LTC6813-1 cell monitors on one pair of wires, and the host side of a
- * controller that polls them: check word, frame writer, reply reader, cell readings, link tally and wake rule.
+ * controller that polls them: check word, conversion codes, frame writer, reply reader, cell readings, link tally and wake
+ * rule.
  *
  * Every entry is proved, for all inputs, to give the number, the values and the lent bytes that its page below states. It
  * never allocates, keeps nothing between calls, and needs under 2 KB of stack; two threads may call it at once, each on
@@ -43,13 +44,14 @@ extern "C" {
 
 #define RIG_DONE 0            /* done */
 #define RIG_BAD_SIZE 1        /* n is not 1 to 16; of a tally, the marks are not 1 to 16 */
-#define RIG_UNKNOWN_COMMAND 2 /* the command is not one of the 26 */
+#define RIG_UNKNOWN_COMMAND 2 /* the command is not one of the 26, nor a conversion code */
 #define RIG_WRONG_LENGTH 3    /* lent data, state or reply of the wrong length; or a mark above 2 */
 #define RIG_COMMAND_PEC 4     /* the frame's command group has a wrong check word */
 #define RIG_OUTPUT_SHORT 5    /* a lent output is too short */
 #define RIG_FRAME_LENGTH 6    /* the frame has under 4 bytes, or not the length of its command */
 #define RIG_NO_READ 7         /* the command is no read */
 #define RIG_TALLY_FULL 8      /* a count of the tally would pass 4,294,967,295 */
+#define RIG_OUT_OF_RANGE 9    /* a conversion command or one of its fields is out of its range */
 
 /* ---- Marks: what became of one device's group in a reply ---------------------------------------------------------- */
 
@@ -64,7 +66,7 @@ extern "C" {
 #define RIG_GROUPS 18      /* register groups of a device */
 #define RIG_CELLS 18       /* cells of a device */
 #define RIG_GROUP_BYTES 6  /* bytes of a group, without its check word */
-#define RIG_COMMAND_BYTES 4 /* the frame of a clear: a command group */
+#define RIG_COMMAND_BYTES 4 /* the frame of a clear or a conversion: a command group */
 #define RIG_DATA_BYTES(n) ((size_t)6 * (n))      /* host data of a write or read, for n devices */
 #define RIG_FRAME_BYTES(n) ((size_t)4 + (size_t)8 * (n)) /* the frame of a write or read, and its reply */
 #define RIG_STATE_BYTES(n) ((size_t)108 * (n))   /* the state of n devices */
@@ -120,6 +122,23 @@ extern "C" {
 #define RIG_CLRCELL 0x711 /* groups CVA to CVF */
 #define RIG_CLRAUX 0x712  /* groups AUXA to AUXD */
 
+/* ---- The 13 conversion commands, which start a measurement: numbers for rig_conversion_code, which makes a code of a command
+ * and its fields. They are no codes, and rig_write would take them for other commands. ---------------------------------- */
+
+#define RIG_CONVERT_ADCV 0     /* cells */
+#define RIG_CONVERT_ADOW 1     /* open wire of the cells */
+#define RIG_CONVERT_CVST 2     /* self test of the cells */
+#define RIG_CONVERT_ADOL 3     /* overlap of cells 7 and 13 */
+#define RIG_CONVERT_ADAX 4     /* GPIO */
+#define RIG_CONVERT_ADAXD 5    /* GPIO, with digital redundancy */
+#define RIG_CONVERT_AXOW 6     /* open wire of the GPIO */
+#define RIG_CONVERT_AXST 7     /* self test of the GPIO */
+#define RIG_CONVERT_ADSTAT 8   /* status group */
+#define RIG_CONVERT_ADSTATD 9  /* status group, with digital redundancy */
+#define RIG_CONVERT_STATST 10  /* self test of the status group */
+#define RIG_CONVERT_ADCVAX 11  /* cells, GPIO 1 and GPIO 2 */
+#define RIG_CONVERT_ADCVSC 12  /* cells and the sum of cells */
+
 /* ---- Records ----------------------------------------------------------------------------------------------------- */
 
 struct rig_written {
@@ -129,7 +148,7 @@ struct rig_written {
 
 struct rig_heard {
     uint8_t number;
-    uint16_t word; /* bit k - 1: device k stored its group, or was cleared; 0 on a read or refusal */
+    uint16_t word; /* bit k - 1: device k stored its group, was cleared or started a conversion; 0 on a read or refusal */
 };
 
 struct rig_wait {
@@ -150,6 +169,20 @@ struct rig_tally {
     uint32_t silent;
 };
 
+struct rig_code {
+    uint8_t number;
+    uint16_t code; /* 0 on refusal */
+};
+
+struct rig_conversion {
+    uint8_t number;
+    uint32_t command; /* RIG_CONVERT_ADCV and on; this and every field 0 on refusal */
+    uint32_t mode;
+    uint32_t discharge;
+    uint32_t pull_up;
+    uint32_t choice;
+};
+
 /* Examples follow one another: a later one uses what an earlier one has. */
 
 /* ---- rig_pec: the check word of bytes ------------------------------------------------------------------------------
@@ -165,13 +198,13 @@ uint16_t rig_pec(const uint8_t *bytes, size_t bytes_len);
 /* ---- rig_write: the frame of a command -----------------------------------------------------------------------------
  * Lays the frame that sends `code` to a chain of n over the start of `out`. Device n's group goes first on the wire.
  *   n                the devices of the chain
- *   code             one of the 26 commands
- *   data, data_len   of a write, six bytes a device in device order: RIG_DATA_BYTES(n); of a read or clear, none: NULL, 0
- *   out, out_len     at least RIG_FRAME_BYTES(n), or RIG_COMMAND_BYTES for a clear
+ *   code             one of the 26 commands, or a conversion code (rig_conversion_code)
+ *   data, data_len   of a write, six bytes a device in device order: RIG_DATA_BYTES(n); of all else, none: NULL, 0
+ *   out, out_len     at least RIG_FRAME_BYTES(n), or RIG_COMMAND_BYTES for a clear or a conversion
  * Number, the first that applies:
  *   RIG_BAD_SIZE          n is not 1 to 16
- *   RIG_UNKNOWN_COMMAND   code is not one of the 26
- *   RIG_WRONG_LENGTH      a write whose data are not 6n bytes, or a read or clear with any data
+ *   RIG_UNKNOWN_COMMAND   code is not one of the 26, nor a conversion code
+ *   RIG_WRONG_LENGTH      a write whose data are not 6n bytes, or another command with any data
  *   RIG_OUTPUT_SHORT      out is shorter than the frame
  *   RIG_DONE              length bytes of out are the frame (a read's last 8n are 0xFF clock bytes); the rest is untouched
  * On refusal length is 0 and out is untouched. data is only read.
@@ -195,12 +228,13 @@ struct rig_written rig_write(uint32_t n, uint32_t code, const uint8_t *data, siz
  *   RIG_OUTPUT_SHORT      reply is shorter than the frame                                      state, reply untouched
  *   RIG_FRAME_LENGTH      the frame has under 4 bytes                                          state untouched, silence
  *   RIG_COMMAND_PEC       the command group's check word is wrong, in any of its 16 bits       state untouched, silence
- *   RIG_UNKNOWN_COMMAND   the command is not one of the 26                                     state untouched, silence
+ *   RIG_UNKNOWN_COMMAND   the command is not one of the 26, nor a conversion code              state untouched, silence
  *   RIG_FRAME_LENGTH      the frame has not the length of its command on n devices             state untouched, silence
- *   RIG_DONE              a write stores, a clear sets its groups to 0xFF: the answer is silence;
+ *   RIG_DONE              a write stores, a clear sets its groups to 0xFF, a conversion changes nothing, for nothing is measured
+ *                         here: the answer to each is silence;
  *                         a read leaves state untouched: 4 bytes 0xFF, then the group of device 1 and its check word, and on
  * Silence: frame_len bytes 0xFF, what a wire shows that nobody drives. Bytes of reply past frame_len are always untouched.
- * The word: on a write bit k - 1 for each device k that stored, on a clear the low n bits, otherwise 0.
+ * The word: on a write bit k - 1 for each device k that stored, on a clear or a conversion the low n bits, otherwise 0.
  *
  *     uint8_t state[RIG_STATE_BYTES(16)] = {0}, reply[RIG_FRAME_BYTES(16)];
  *     struct rig_heard heard = rig_chain(16, frame, out.length, state, sizeof state, reply, sizeof reply);
@@ -217,8 +251,8 @@ struct rig_heard rig_chain(uint32_t n, const uint8_t *frame, size_t frame_len, u
  *   marks, marks_len   at least n
  * Number, the first that applies:
  *   RIG_BAD_SIZE          n is not 1 to 16
- *   RIG_UNKNOWN_COMMAND   code is not one of the 26
- *   RIG_NO_READ           code is a write or a clear
+ *   RIG_UNKNOWN_COMMAND   code is not one of the 26, nor a conversion code
+ *   RIG_NO_READ           code is a write, a clear or a conversion
  *   RIG_WRONG_LENGTH      reply is not 4 + 8n bytes
  *   RIG_OUTPUT_SHORT      data has under 6n bytes, or marks under n
  *   RIG_DONE              data has device k's six bytes at 6(k - 1), and marks its mark at k - 1; where the mark is not
@@ -281,6 +315,37 @@ uint8_t rig_tally_add(struct rig_tally *tally, const uint8_t *marks, size_t mark
  */
 struct rig_wait rig_wake(uint32_t n, uint32_t last, uint32_t now);
 
+/* ---- rig_conversion_code: the code that starts a conversion ---------------------------------------------------------------
+ * Makes the code of a conversion command and its fields, for rig_write. A field that the command does not have is 0.
+ *   command     RIG_CONVERT_ADCV to RIG_CONVERT_ADCVSC
+ *   mode        of every command, 0 to 3: 422 Hz, 27 kHz (fast), 7 kHz (normal), 26 Hz (filtered); with ADCOPT set in CFGA
+ *               1 kHz, 14 kHz, 3 kHz, 2 kHz
+ *   discharge   of ADCV, ADOW, ADOL, ADCVAX and ADCVSC: 0 not permitted, 1 permitted meanwhile
+ *   pull_up     of ADOW and AXOW: 0 a pull-down current, 1 a pull-up current
+ *   choice      of ADCV and ADOW (CH), 0 to 6: all cells, or cells c, c + 6 and c + 12;
+ *               of ADAX, ADAXD and AXOW (CHG), 0 to 6: all, GPIO 1 and 6, 2 and 7, 3 and 8, 4 and 9, 5, second reference;
+ *               of ADSTAT and ADSTATD (CHST), 0 to 4: all, sum of cells, die temperature, analog supply, digital supply;
+ *               of CVST, AXST and STATST (ST), 1 or 2: the self test
+ * Number:
+ *   RIG_OUT_OF_RANGE   command is above 12, or a field is out of its range (0, where the command does not have it): code is 0
+ *   RIG_DONE           code is that of the command and fields, one of 368; no others have it
+ *
+ *     struct rig_code start = rig_conversion_code(RIG_CONVERT_ADCV, 2, 0, 0, 0);  // all cells at 7 kHz, no discharge: 0x360
+ *     struct rig_written started = rig_write(16, start.code, NULL, 0, frame, sizeof frame);
+ */
+struct rig_code rig_conversion_code(uint32_t command, uint32_t mode, uint32_t discharge, uint32_t pull_up, uint32_t choice);
+
+/* ---- rig_conversion_of: the command and fields of a conversion code -------------------------------------------------------
+ * Takes a code apart. It undoes rig_conversion_code, and rig_conversion_code undoes it.
+ *   code   any number
+ * Number:
+ *   RIG_UNKNOWN_COMMAND   code is not one of the 368 conversion codes: command and every field are 0
+ *   RIG_DONE              command is RIG_CONVERT_ADCV to RIG_CONVERT_ADCVSC; a field that it does not have is 0
+ *
+ *     struct rig_conversion taken = rig_conversion_of(0x360);  // RIG_CONVERT_ADCV, mode 2
+ */
+struct rig_conversion rig_conversion_of(uint32_t code);
+
 #ifdef __cplusplus
 }
 #endif
@@ -312,6 +377,16 @@ RIG_ASSERT(offsetof(struct rig_tally, replies) == 0, "rig.h: rig_tally.replies l
 RIG_ASSERT(offsetof(struct rig_tally, read) == 4, "rig.h: rig_tally.read lies elsewhere");
 RIG_ASSERT(offsetof(struct rig_tally, wrong) == 8, "rig.h: rig_tally.wrong lies elsewhere");
 RIG_ASSERT(offsetof(struct rig_tally, silent) == 12, "rig.h: rig_tally.silent lies elsewhere");
+RIG_ASSERT(sizeof(struct rig_code) == 4, "rig.h: struct rig_code has another size");
+RIG_ASSERT(offsetof(struct rig_code, number) == 0, "rig.h: rig_code.number lies elsewhere");
+RIG_ASSERT(offsetof(struct rig_code, code) == 2, "rig.h: rig_code.code lies elsewhere");
+RIG_ASSERT(sizeof(struct rig_conversion) == 24, "rig.h: struct rig_conversion has another size");
+RIG_ASSERT(offsetof(struct rig_conversion, number) == 0, "rig.h: rig_conversion.number lies elsewhere");
+RIG_ASSERT(offsetof(struct rig_conversion, command) == 4, "rig.h: rig_conversion.command lies elsewhere");
+RIG_ASSERT(offsetof(struct rig_conversion, mode) == 8, "rig.h: rig_conversion.mode lies elsewhere");
+RIG_ASSERT(offsetof(struct rig_conversion, discharge) == 12, "rig.h: rig_conversion.discharge lies elsewhere");
+RIG_ASSERT(offsetof(struct rig_conversion, pull_up) == 16, "rig.h: rig_conversion.pull_up lies elsewhere");
+RIG_ASSERT(offsetof(struct rig_conversion, choice) == 20, "rig.h: rig_conversion.choice lies elsewhere");
 #undef RIG_ASSERT
 #endif
 

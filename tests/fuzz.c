@@ -1,7 +1,7 @@
 /* fuzz.c: a libFuzzer target over the C entries. The archive is not instrumented, so each lent buffer stands flush against
  * an inaccessible page, first at its end, then at its start: one byte read or written outside it traps. Every answer and all
- * exit contents are held to the plain ones, and those of check word, writer, chain and reader to second/ (with
- * -DNO_SECOND not, for a target that Rust is not built for). The fuzzer's bytes choose the entry, sizes, lengths, contents
+ * exit contents are held to the plain ones, and those of check word, writer, chain, reader and conversion codes to second/
+ * (with -DNO_SECOND not, for a target that Rust is not built for). The fuzzer's bytes choose the entry, sizes, lengths, contents
  * and damage.
  *
  *     make fuzz                as long as one likes
@@ -96,10 +96,19 @@ static uint32_t next_size(struct input *in) {
     return byte < 240 ? 1u + byte % 16 : byte < 248 ? (byte - 240u) * 17u : next_word(in);
 }
 
-/* Mostly one of the 26. */
+/* A conversion code: the first from a place up to 0x5FF, which is the last. */
+static uint32_t next_conversion(struct input *in) {
+    uint32_t code = 0x200 + (next_word(in) >> 22);
+    while (plain_conversion(code).number != RIG_DONE) {
+        code++;
+    }
+    return code;
+}
+
+/* Mostly one of the 26, or a conversion. */
 static uint32_t next_code(struct input *in) {
     uint8_t byte = next(in);
-    return byte < 234 ? commands[byte % 26].code : next_word(in) >> (byte % 4 * 8);
+    return byte < 182 ? commands[byte % 26].code : byte < 234 ? next_conversion(in) : next_word(in) >> (byte % 4 * 8);
 }
 
 /* Mostly the right length, or one near it. */
@@ -167,7 +176,7 @@ static size_t next_frame(struct input *in, uint32_t n, uint8_t *frame) {
         next_bytes(in, frame, length);
         return length;
     }
-    const struct command *command = &commands[choice % 26];
+    const struct command *command = choice < 182 ? &commands[choice % 26] : command_of(next_conversion(in));
     size_t length, cut;
     for (size_t i = 0; i < sizeof data; i++) {
         data[i] = (uint8_t)(i * 31 + choice);
@@ -340,9 +349,37 @@ static void fuzz_wake(struct input *in) {
     hold(got.wait == (good && gap >= 4300 ? 10 * n : 0), "the wait is another");
 }
 
+/* A number up to one above `most`, or now and then any. */
+static uint32_t next_field(struct input *in, uint32_t most) {
+    uint8_t byte = next(in);
+    return byte < 250 ? byte % (most + 2) : next_word(in);
+}
+
+static void fuzz_conversion_code(struct input *in) {
+    uint32_t command = next_field(in, 12), mode = next_field(in, 3), discharge = next_field(in, 1);
+    uint32_t pull_up = next_field(in, 1), choice = next_field(in, 6);
+    struct rig_code then = plain_code(command, mode, discharge, pull_up, choice);
+    struct rig_code got = rig_conversion_code(command, mode, discharge, pull_up, choice);
+    hold(got.number == then.number && got.code == then.code, "a conversion's code is another");
+#ifndef NO_SECOND
+    struct rig_code second = second_conversion_code(command, mode, discharge, pull_up, choice);
+    hold(second.number == then.number && second.code == then.code, "second/ has another conversion's code");
+#endif
+}
+
+static void fuzz_conversion_of(struct input *in) {
+    uint32_t code = next_code(in);
+    struct rig_conversion then = plain_conversion(code);
+    hold(same_conversion(rig_conversion_of(code), then), "the conversion of a code is another");
+#ifndef NO_SECOND
+    hold(same_conversion(second_conversion_of(code), then), "second/ takes a code apart otherwise");
+#endif
+}
+
 int LLVMFuzzerTestOneInput(const uint8_t *bytes, size_t length);
 int LLVMFuzzerTestOneInput(const uint8_t *bytes, size_t length) {
-    static void (*const entries[])(struct input *) = {fuzz_pec, fuzz_write, fuzz_chain, fuzz_read, fuzz_cells, fuzz_tally, fuzz_wake};
+    static void (*const entries[])(struct input *) = {fuzz_pec,   fuzz_write, fuzz_chain,           fuzz_read,         fuzz_cells,
+                                                      fuzz_tally, fuzz_wake,  fuzz_conversion_code, fuzz_conversion_of};
     struct input in = {bytes, length};
     entries[next(&in) % (sizeof entries / sizeof *entries)](&in);
     return 0;

@@ -31,13 +31,77 @@ const struct command commands[26] = {
     {RIG_CLRAUX, CLEARS, RIG_GROUP_AUXA, RIG_GROUP_AUXD},
 };
 
+/* The conversion commands as 002 has them: the bits of the code that are set in all of a command's codes, those of each field,
+ * and the ends of the choice. */
+static const struct conversion {
+    uint32_t set, mode, discharge, pull_up, choice, least, most;
+} conversions[13] = {
+    [RIG_CONVERT_ADCV] = {0x260, 0x180, 0x010, 0, 0x007, 0, 6},    [RIG_CONVERT_ADOW] = {0x228, 0x180, 0x010, 0x040, 0x007, 0, 6},
+    [RIG_CONVERT_CVST] = {0x207, 0x180, 0, 0, 0x060, 1, 2},        [RIG_CONVERT_ADOL] = {0x201, 0x180, 0x010, 0, 0, 0, 0},
+    [RIG_CONVERT_ADAX] = {0x460, 0x180, 0, 0, 0x007, 0, 6},        [RIG_CONVERT_ADAXD] = {0x400, 0x180, 0, 0, 0x007, 0, 6},
+    [RIG_CONVERT_AXOW] = {0x410, 0x180, 0, 0x040, 0x007, 0, 6},    [RIG_CONVERT_AXST] = {0x407, 0x180, 0, 0, 0x060, 1, 2},
+    [RIG_CONVERT_ADSTAT] = {0x468, 0x180, 0, 0, 0x007, 0, 4},      [RIG_CONVERT_ADSTATD] = {0x408, 0x180, 0, 0, 0x007, 0, 4},
+    [RIG_CONVERT_STATST] = {0x40F, 0x180, 0, 0, 0x060, 1, 2},      [RIG_CONVERT_ADCVAX] = {0x46F, 0x180, 0x010, 0, 0, 0, 0},
+    [RIG_CONVERT_ADCVSC] = {0x467, 0x180, 0x010, 0, 0, 0, 0},
+};
+
+/* The value of the field whose bits are `bits`; 0 where there are none. */
+static uint32_t field(uint32_t code, uint32_t bits) { return bits == 0 ? 0 : (code & bits) / (bits & (0 - bits)); }
+
+struct rig_conversion plain_conversion(uint32_t code) {
+    struct rig_conversion none = {RIG_UNKNOWN_COMMAND, 0, 0, 0, 0, 0};
+    for (uint32_t i = 0; i < 13; i++) {
+        const struct conversion *c = &conversions[i];
+        uint32_t choice = field(code, c->choice);
+        if ((code & ~(c->mode | c->discharge | c->pull_up | c->choice)) == c->set && choice >= c->least && choice <= c->most) {
+            struct rig_conversion found = {RIG_DONE, i, field(code, c->mode), field(code, c->discharge), field(code, c->pull_up), choice};
+            return found;
+        }
+    }
+    return none;
+}
+
+int same_conversion(struct rig_conversion a, struct rig_conversion b) {
+    return a.number == b.number && a.command == b.command && a.mode == b.mode && a.discharge == b.discharge &&
+           a.pull_up == b.pull_up && a.choice == b.choice;
+}
+
+/* The code that is taken apart into these fields, looked for among all conversion codes, which are found once. */
+struct rig_code plain_code(uint32_t command, uint32_t mode, uint32_t discharge, uint32_t pull_up, uint32_t choice) {
+    static struct rig_conversion fields[1u << 11];
+    static uint16_t codes[1u << 11];
+    static size_t count;
+    struct rig_conversion wanted = {RIG_DONE, command, mode, discharge, pull_up, choice};
+    struct rig_code found = {RIG_OUT_OF_RANGE, 0};
+    if (count == 0) {
+        for (uint16_t code = 0; code < 1u << 11; code++) {
+            fields[count] = plain_conversion(code);
+            codes[count] = code;
+            count += fields[count].number == RIG_DONE;
+        }
+    }
+    for (size_t i = 0; i < count; i++) {
+        if (same_conversion(fields[i], wanted)) {
+            found.number = RIG_DONE;
+            found.code = codes[i];
+        }
+    }
+    return found;
+}
+
 const struct command *command_of(uint32_t code) {
+    static struct command conversion[1u << 11];
     for (size_t i = 0; i < 26; i++) {
         if (commands[i].code == code) {
             return &commands[i];
         }
     }
-    return NULL;
+    if (plain_conversion(code).number != RIG_DONE) {
+        return NULL;
+    }
+    conversion[code].code = code;
+    conversion[code].kind = CONVERTS;
+    return &conversion[code];
 }
 
 uint16_t plain_word(const uint8_t *bytes, size_t length) {
@@ -66,7 +130,7 @@ size_t plain_data_length(uint32_t n, const struct command *command) {
 }
 
 size_t plain_frame_length(uint32_t n, const struct command *command) {
-    return command->kind == CLEARS ? RIG_COMMAND_BYTES : RIG_FRAME_BYTES(n);
+    return command->kind == WRITES || command->kind == READS ? RIG_FRAME_BYTES(n) : RIG_COMMAND_BYTES;
 }
 
 size_t plain_frame(uint32_t n, const struct command *command, const uint8_t *data, uint8_t *frame) {
@@ -99,6 +163,8 @@ uint16_t plain_obey(uint32_t n, const struct command *command, const uint8_t *fr
             plain_group(device + 6 * command->group, 6, reply + 4 + 8 * k);
         } else if (command->kind == CLEARS) {
             memset(device + 6 * command->group, 0xFF, 6 * (command->last - command->group + 1));
+            word |= (uint16_t)(1u << k);
+        } else if (command->kind == CONVERTS) {
             word |= (uint16_t)(1u << k);
         } else if (plain_mark(sent) == RIG_MARK_READ) {
             memcpy(device + 6 * command->group, sent, 6);

@@ -16,7 +16,7 @@ void expect(int holds, const char *what, unsigned long a, unsigned long b, int l
 
 /* ---- the commands, each with its kind and group ---- */
 
-enum kind { WRITES, READS, CLEARS };
+enum kind { WRITES, READS, CLEARS, CONVERTS };
 
 struct command {
     uint32_t code;
@@ -27,7 +27,7 @@ struct command {
 
 extern const struct command commands[26];
 
-/* The command of a code, or NULL. */
+/* The command of a code, one of the 26 or a conversion, or NULL. */
 const struct command *command_of(uint32_t code);
 
 /* ---- plain answers ---- */
@@ -48,6 +48,12 @@ uint8_t plain_mark(const uint8_t *group);
 
 /* What a good frame leaves in the state, and in a reply of silence; the chain's word. */
 uint16_t plain_obey(uint32_t n, const struct command *command, const uint8_t *frame, uint8_t *state, uint8_t *reply);
+
+/* A conversion code from its fields, and back. */
+struct rig_code plain_code(uint32_t command, uint32_t mode, uint32_t discharge, uint32_t pull_up, uint32_t choice);
+struct rig_conversion plain_conversion(uint32_t code);
+
+int same_conversion(struct rig_conversion a, struct rig_conversion b);
 
 /* The numbers, by the order of refusals that the paper has. NULL is an unknown command. */
 uint8_t plain_writer_number(uint32_t n, const struct command *command, size_t data, size_t out);

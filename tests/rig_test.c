@@ -97,7 +97,7 @@ static void test_write(void) {
     }
 }
 
-/* Every code of 16 bits, and above: the 26 are known, and no other. */
+/* Every code of 16 bits, and above: the 26 and the conversions are known, and no other. */
 static void test_codes(void) {
     static const unsigned groups[RIG_GROUPS] = {
         RIG_GROUP_CFGA, RIG_GROUP_CFGB, RIG_GROUP_CVA,   RIG_GROUP_CVB,   RIG_GROUP_CVC,  RIG_GROUP_CVD,
@@ -120,6 +120,76 @@ static void test_codes(void) {
         }
         EXPECT(reads == 1 && writes == (g < 2 || g > 13), "each group has a read; 0, 1 and 14 to 17 a write", g, writes);
     }
+}
+
+/* ---- conversion codes ---- */
+
+/* A command, its mode, discharge, pull-up and choice; the number. */
+static uint8_t one_conversion_code(const uint32_t f[5]) {
+    struct rig_code got = rig_conversion_code(f[0], f[1], f[2], f[3], f[4]);
+    struct rig_code then = plain_code(f[0], f[1], f[2], f[3], f[4]);
+    EXPECT(got.number == then.number, "number of a conversion's code", f[0], f[4]);
+    EXPECT(got.code == then.code, "a conversion's code", f[0], f[4]);
+    return got.number;
+}
+
+/* A code is taken apart as the plain answer has it, and built again from its fields; whether it is a conversion's. */
+static unsigned one_conversion_of(uint32_t code) {
+    struct rig_conversion got = rig_conversion_of(code);
+    EXPECT(same_conversion(got, plain_conversion(code)), "a code taken apart", code, got.number);
+    if (got.number != RIG_DONE) {
+        return 0;
+    }
+    struct rig_code back = rig_conversion_code(got.command, got.mode, got.discharge, got.pull_up, got.choice);
+    EXPECT(back.number == RIG_DONE && back.code == code, "a code built again", code, back.code);
+    return 1;
+}
+
+/* The paper's two formulas. */
+static void conversion_formulas(void) {
+    for (uint32_t mode = 0; mode < 4; mode++) {
+        for (uint32_t choice = 0; choice < 7; choice++) {
+            for (uint32_t discharge = 0; discharge < 2; discharge++) {
+                struct rig_code adcv = rig_conversion_code(RIG_CONVERT_ADCV, mode, discharge, 0, choice);
+                EXPECT(adcv.code == 0x260 + 0x80 * mode + 0x10 * discharge + choice, "code of ADCV", mode, choice);
+            }
+            struct rig_code adax = rig_conversion_code(RIG_CONVERT_ADAX, mode, 0, 0, choice);
+            EXPECT(adax.code == 0x460 + 0x80 * mode + choice, "code of ADAX", mode, choice);
+        }
+    }
+}
+
+/* Every command and field up to two past the highest; where they are lawful, also with a bit that would be lost if one were cut down. */
+static void conversion_fields(void) {
+    for (uint32_t i = 0; i < 15 * 6 * 4 * 4 * 9; i++) {
+        uint32_t f[5] = {i / (6 * 4 * 4 * 9), i / (4 * 4 * 9) % 6, i / (4 * 9) % 4, i / 9 % 4, i % 9};
+        if (one_conversion_code(f) != RIG_DONE) {
+            continue;
+        }
+        for (unsigned k = 0; k < 5 * 4; k++) {
+            uint32_t more = (uint32_t)1 << (8 + 7 * (k % 4));
+            f[k / 4] += more;
+            EXPECT(one_conversion_code(f) == RIG_OUT_OF_RANGE, "a wide field", k / 4, f[k / 4]);
+            f[k / 4] -= more;
+        }
+    }
+}
+
+static void test_conversions(void) {
+    static const uint32_t near_codes[] = {0x267, 0x407, 0x40F, 0x207, 0x22F, 0x26F, 0x46D, 0x46E, 0x417, 0x457, 0x018,
+                                          0x019, 0x028, 0x029, 0x713, 0x714, 0x715, 0x723, 0x000, RIG_CLRCELL, RIG_RDCVA};
+    unsigned known = 0;
+    for (uint32_t code = 0; code < 1u << 17; code++) {
+        known += one_conversion_of(code);
+        known += one_conversion_of(4294967295u - code);
+    }
+    EXPECT(known == 368, "368 codes are conversions", known, 368);
+    for (size_t i = 0; i < sizeof near_codes / sizeof *near_codes; i++) {
+        EXPECT(rig_conversion_of(near_codes[i]).number == 2, "a code that is near a conversion's", near_codes[i], 0);
+    }
+    EXPECT(rig_conversion_of(0x467).command == RIG_CONVERT_ADCVSC && rig_conversion_of(0x46F).command == RIG_CONVERT_ADCVAX, "467 and 46F", 0, 0);
+    conversion_formulas();
+    conversion_fields();
 }
 
 /* ---- the chain ---- */
@@ -178,6 +248,7 @@ static void test_chain(void) {
         for (size_t i = 0; i < 26; i++) {
             chain_frames(n, &commands[i], data);
         }
+        chain_frames(n, command_of(0x360), data);
     }
 }
 
@@ -267,6 +338,41 @@ static void test_cells(void) {
     }
 }
 
+/* ---- writer, chain and reader on conversion codes ---- */
+
+static void conversion_frames(uint32_t n, const struct command *command) {
+    uint8_t frame[RIG_COMMAND_BYTES + 1] = {0}, reply[RIG_FRAME_BYTES(17)];
+    memset(reply, 0xFF, sizeof reply);
+    for (int step = 0; step < 9; step++) {
+        one_write(n, command->code, near(0, step % 3 - 1), near(RIG_COMMAND_BYTES, step / 3 - 1));
+    }
+    plain_frame(n, command, NULL, frame);
+    for (int step = -1; step <= 1; step++) {
+        one_chain(n, frame, near(4, step), RIG_STATE_BYTES(n), 5);
+        one_chain(n, frame, 4, near(RIG_STATE_BYTES(n), step), 4);
+        one_chain(n, frame, 4, RIG_STATE_BYTES(n), near(4, step));
+    }
+    frame[3] ^= 1;
+    one_chain(n, frame, 4, RIG_STATE_BYTES(n), 4);
+    one_read(n, command->code, reply, RIG_FRAME_BYTES(n), RIG_DATA_BYTES(n), n);
+    one_read(n, command->code, reply, RIG_COMMAND_BYTES, 0, 0);
+}
+
+static void test_conversion_frames(void) {
+    static const uint8_t adcv[4] = {0x03, 0x60, 0xF4, 0x6C};
+    uint8_t out[4] = {0};
+    EXPECT(rig_write(16, 0x360, NULL, 0, out, 4).length == 4 && memcmp(out, adcv, 4) == 0, "ADCV, mode 2, all cells", 16, 0x360);
+    for (uint32_t code = 0; code < 1u << 11; code++) {
+        const struct command *command = command_of(code);
+        if (command != NULL && command->kind == CONVERTS) {
+            conversion_frames(0, command);
+            conversion_frames(1 + code % 15, command);
+            conversion_frames(16, command);
+            conversion_frames(17, command);
+        }
+    }
+}
+
 /* ---- the tally ---- */
 
 static int same(struct rig_tally a, struct rig_tally b) {
@@ -352,16 +458,19 @@ static void read_job(void) { sink += rig_read(16, RIG_RDPSB, reply_16, 132, data
 static void cells_job(void) { sink += rig_cells(cells_36, 36, marks_16, 6).valid; }
 static void tally_job(void) { sink += rig_tally_add(&tally_16, marks_16, 16); }
 static void wake_job(void) { sink += rig_wake(16, 0, 4300).wait; }
+static void code_job(void) { sink += rig_conversion_code(RIG_CONVERT_ADCVSC, 3, 1, 0, 0).code; }
+static void conversion_job(void) { sink += rig_conversion_of(0x5F7).mode; }
 
 static void test_stack(void) {
     static const struct { const char *name; void (*job)(void); } jobs[] = {
         {"rig_pec", pec_job}, {"rig_write (write)", write_job}, {"rig_chain (write)", chain_write_job},
         {"rig_write (read)", read_frame_job}, {"rig_chain (read)", chain_read_job}, {"rig_read", read_job},
         {"rig_cells", cells_job}, {"rig_tally_add", tally_job}, {"rig_wake", wake_job},
+        {"rig_conversion_code", code_job}, {"rig_conversion_of", conversion_job},
     };
     for (size_t i = 0; i < sizeof jobs / sizeof *jobs; i++) {
         size_t used = stack_of(jobs[i].job);
-        printf("   stack of %-18s %5zu bytes\n", jobs[i].name, used);
+        printf("   stack of %-19s %5zu bytes\n", jobs[i].name, used);
         EXPECT(used < STACK_LIMIT, "stack under 2 KB", i, used);
     }
     EXPECT(tally_16.replies == 2 && tally_16.read == 32, "the jobs did their work", tally_16.replies, tally_16.read);
@@ -371,9 +480,9 @@ static void test_stack(void) {
 int main(int count, char **words) {
     int no_stack = count == 2 && strcmp(words[1], "--no-stack") == 0;
     static const struct { const char *name; void (*test)(void); } tests[] = {
-        {"rig_pec", test_pec}, {"rig_write", test_write}, {"the 26 commands", test_codes}, {"rig_chain", test_chain},
-        {"rig_read", test_read}, {"rig_cells", test_cells}, {"rig_tally_add", test_tally}, {"rig_wake", test_wake},
-        {"stack", test_stack},
+        {"rig_pec", test_pec}, {"rig_write", test_write}, {"the known codes", test_codes}, {"conversion codes", test_conversions},
+        {"rig_chain", test_chain}, {"rig_read", test_read}, {"conversion frames", test_conversion_frames}, {"rig_cells", test_cells},
+        {"rig_tally_add", test_tally}, {"rig_wake", test_wake}, {"stack", test_stack},
     };
     if (count > 1 && !no_stack) {
         fprintf(stderr, "%s: %s: the only argument that it takes is --no-stack\n", words[0], words[1]);
@@ -382,7 +491,7 @@ int main(int count, char **words) {
     for (size_t i = 0; i < sizeof tests / sizeof *tests - (no_stack ? 1 : 0); i++) {
         unsigned long before = checks;
         tests[i].test();
-        printf("   %-18s %8lu checks\n", tests[i].name, checks - before);
+        printf("   %-19s %8lu checks\n", tests[i].name, checks - before);
     }
     printf("rig_test: %lu checks, %lu failed\n", checks, failures);
     return failures > 0;

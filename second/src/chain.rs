@@ -57,7 +57,11 @@ fn obey(command: Command, body: &[u8], state: &mut [u8], answer: &mut [u8]) -> u
             send(command.first, state, &mut answer[COMMAND_GROUP..]);
             0
         }
-        Kind::Clear => clear(command.first, command.last, state),
+        Kind::Clear => {
+            clear(command.first, command.last, state);
+            every_device(state)
+        }
+        Kind::Convert => every_device(state),
     }
 }
 
@@ -80,11 +84,12 @@ fn send(group: usize, state: &[u8], answer: &mut [u8]) {
     }
 }
 
-fn clear(first: usize, last: usize, state: &mut [u8]) -> u16 {
-    let mut word = 0;
-    for (before, device) in state.chunks_exact_mut(DEVICE).enumerate() {
+fn clear(first: usize, last: usize, state: &mut [u8]) {
+    for device in state.chunks_exact_mut(DEVICE) {
         device[DATA * first..DATA * (last + 1)].fill(0xFF);
-        word |= 1 << before;
     }
-    word
+}
+
+fn every_device(state: &[u8]) -> u16 {
+    (0..state.len() / DEVICE).fold(0, |word, before| word | 1 << before)
 }

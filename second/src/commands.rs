@@ -1,5 +1,6 @@
-//! The one table of 26 commands: code, name in the data sheet, kind and register group.
+//! The one table of 26 commands: code, name in the data sheet, kind and register group. Beside it the conversions.
 
+use crate::conversions;
 use crate::groups::{COMMAND_GROUP, DATA_GROUP};
 
 #[derive(Clone, Copy, Debug, PartialEq, Eq)]
@@ -7,9 +8,10 @@ pub enum Kind {
     Write,
     Read,
     Clear,
+    Convert,
 }
 
-/// A clear reaches from group `first` to group `last`; of a write or read both are its one group.
+/// A clear reaches from group `first` to group `last`; of a write or read both are its one group, and a conversion has none.
 #[derive(Clone, Copy, Debug, PartialEq, Eq)]
 pub struct Command {
     pub code: u16,
@@ -70,11 +72,17 @@ const fn row(code: u16, name: &'static str, kind: Kind, first: usize, last: usiz
     }
 }
 
-/// The row of `code`, if it is listed.
+/// The row of `code`, or the conversion that it starts.
 pub fn find(code: u32) -> Option<Command> {
     COMMANDS
         .into_iter()
         .find(|command| u32::from(command.code) == code)
+        .or_else(|| conversion(code))
+}
+
+fn conversion(code: u32) -> Option<Command> {
+    let name = conversions::name(code)?;
+    Some(row(code as u16, name, Kind::Convert, 0, 0))
 }
 
 impl Command {
@@ -82,7 +90,7 @@ impl Command {
     pub(crate) fn frame_length(&self, devices: usize) -> usize {
         match self.kind {
             Kind::Write | Kind::Read => COMMAND_GROUP + DATA_GROUP * devices,
-            Kind::Clear => COMMAND_GROUP,
+            Kind::Clear | Kind::Convert => COMMAND_GROUP,
         }
     }
 }

@@ -3,6 +3,7 @@
 pub mod cells;
 pub mod chain;
 pub mod commands;
+pub mod conversions;
 pub mod groups;
 pub mod numbers;
 pub mod pec;

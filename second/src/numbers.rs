@@ -9,6 +9,7 @@ pub const OUTPUT_SHORT: u8 = 5;
 pub const FRAME_LENGTH: u8 = 6;
 pub const NO_READ: u8 = 7;
 pub const TALLY_FULL: u8 = 8;
+pub const OUT_OF_RANGE: u8 = 9;
 
 /// The chain size as a length, or the refusal of a size outside 1 to 16.
 pub fn devices(n: u32) -> Result<usize, u8> {

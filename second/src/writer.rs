@@ -29,7 +29,7 @@ fn plan(n: u32, code: u32, given: usize, room: usize) -> Result<(Command, usize)
     let command = commands::find(code).ok_or(numbers::UNKNOWN_COMMAND)?;
     let wanted = match command.kind {
         Kind::Write => DATA * devices,
-        Kind::Read | Kind::Clear => 0,
+        Kind::Read | Kind::Clear | Kind::Convert => 0,
     };
     require(given == wanted, numbers::WRONG_LENGTH_OR_MARK)?;
     let length = command.frame_length(devices);

@@ -3,7 +3,7 @@
 //! Each function asks of its caller what rig.h asks: true lengths, buffers apart, aligned records.
 
 use core::slice::{from_raw_parts, from_raw_parts_mut};
-use second::{cells, chain, pec, reader, tally, writer};
+use second::{cells, chain, conversions, pec, reader, tally, writer};
 
 #[repr(C)]
 pub struct Written {
@@ -30,6 +30,22 @@ pub struct Tally {
     read: u32,
     wrong: u32,
     silent: u32,
+}
+
+#[repr(C)]
+pub struct Code {
+    number: u8,
+    code: u16,
+}
+
+#[repr(C)]
+pub struct Conversion {
+    number: u8,
+    command: u32,
+    mode: u32,
+    discharge: u32,
+    pull_up: u32,
+    choice: u32,
 }
 
 #[no_mangle]
@@ -137,4 +153,32 @@ pub unsafe extern "C" fn second_tally_add(
     lent.wrong = sum.wrong;
     lent.silent = sum.silent;
     number
+}
+
+#[no_mangle]
+pub extern "C" fn second_conversion_code(
+    command: u32,
+    mode: u32,
+    discharge: u32,
+    pull_up: u32,
+    choice: u32,
+) -> Code {
+    let built = conversions::conversion_code(command, mode, discharge, pull_up, choice);
+    Code {
+        number: built.number,
+        code: built.code,
+    }
+}
+
+#[no_mangle]
+pub extern "C" fn second_conversion_of(code: u32) -> Conversion {
+    let taken = conversions::conversion_of(code);
+    Conversion {
+        number: taken.number,
+        command: taken.command,
+        mode: taken.mode,
+        discharge: taken.discharge,
+        pull_up: taken.pull_up,
+        choice: taken.choice,
+    }
 }

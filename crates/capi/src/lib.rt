@@ -1,5 +1,6 @@
 // The C entries, one archive. Each is thin and carries the statement of the layer below; include/rig.h is their manual.
 ghost use Rattle.pec.specs.Word.{CheckWord};
+ghost use Rattle.frames.specs.Conversions.{Builds, TakesApart};
 ghost use Rattle.frames.specs.Writer.{Wrote};
 ghost use Rattle.chain.specs.Chain.{Serves};
 ghost use Rattle.host.specs.Reader.{HandsOut};
@@ -7,6 +8,8 @@ ghost use Rattle.host.specs.Cells.{ReadsCells};
 ghost use Rattle.host.specs.Wake.{Waits};
 ghost use Rattle.capi.specs.Lent.{AddsLent};
 use chain::Heard;
+use frames::conversions::Code;
+use frames::conversions::Conversion;
 use frames::writer::Written;
 use host::cells::Readings;
 use host::tally::Tally;
@@ -68,4 +71,26 @@ pub extern "C" fn rig_wake(n: u32, last: u32, clock: u32) -> Wake
     ensures { λ r. ⌜ Waits n last clock r ⌝ }
 {
     host::wake::wait(n, last, clock)
+}
+
+// The code of a conversion command with its fields.
+#[no_mangle]
+pub extern "C" fn rig_conversion_code(
+    command: u32,
+    mode: u32,
+    discharge: u32,
+    pull_up: u32,
+    choice: u32,
+) -> Code
+    ensures { λ r. ⌜ Builds command mode discharge «pull_up» choice r ⌝ }
+{
+    frames::conversions::conversion_code(command, mode, discharge, pull_up, choice)
+}
+
+// The command and fields of a conversion code.
+#[no_mangle]
+pub extern "C" fn rig_conversion_of(code: u32) -> Conversion
+    ensures { λ r. ⌜ TakesApart code r ⌝ }
+{
+    frames::conversions::conversion_of(code)
 }

@@ -43,7 +43,7 @@ module _ (n : ℕ) (frame frame′ state : List ℕ) (r j : ℕ) (l : length fra
   written-alike h lh write = go (eqb h g) refl
     where
       long : length frame ≡ 4 + 8 * n
-      long = good .long ∙ length-long n kind (λ e. omega arith)
+      long = good .long ∙ length-long n kind (omega arith)
 
       go : (b : Bool) → eqb h g ≡ b → stored j h (written n n g frame state) ≡ stored j h (written n n g frame′ state)
       go true e =

@@ -3,7 +3,7 @@ use mathlib.Core.Path.{_≡_, refl, ap, _∙_}
 use mathlib.Core.Bool.{Bool, true, false, not, _||_}
 use mathlib.Core.Logic.{_⊎_, ⊎-elim}
 use mathlib.Core.List.{List}
-use Prim.Native.Nat.{ℕ, zero, suc, _+_, _*_, _-_, _^_, _≤_, _<_}
+use Prim.Native.Nat.{ℕ, zero, suc, _+_, _*_, _-_, _≤_, _<_}
 use native.Mathlib.Nat.{le-of-suc-le-suc, eq-or-lt-of-le}
 use native.Mathlib.Numerals.{add-one}
 use native.Mathlib.Omega.{arith}
@@ -11,7 +11,6 @@ use borrow.Author.Tests.{leb-true}
 use borrow.Rule.Slice.PartMut.{putMid}
 use lib.Dec.{eqb, leb, lit<}
 use lib.ListN.{length, take, drop, replicate, length-replicate}
-use lib.Pow.{pow-mono}
 use Rattle.lent.specs.Bytes.{Bytes}
 use Rattle.lent.specs.Memory.{splice}
 use Rattle.lent.specs.Refusal.{pick}
@@ -32,7 +31,7 @@ roomy r = not (eqb (r .kind) 3) || leb (r .group + clearCount (r .group)) 18
 pub clear-room : (code : ℕ) → kindOf code ≡ 3 → groupOf code + clearCount (groupOf code) ≤ 18
 unfolding roomy clearCount pick rows kindOf groupOf
 clear-room code e =
-    let t : (not (eqb (kindOf code) 3) || leb (groupOf code + clearCount (groupOf code)) 18) ≡ true = looked-up roomy code refl refl in
+    let t : (not (eqb (kindOf code) 3) || leb (groupOf code + clearCount (groupOf code)) 18) ≡ true = looked-up roomy code refl refl refl in
     leb-true (groupOf code + clearCount (groupOf code)) 18 (rw e at t)
 
 pub clears-some : (g : ℕ) → 0 < clearCount g
@@ -42,9 +41,6 @@ clears-some g = some (eqb g 2)
     some : (b : Bool) → 0 < pick b 6 4
     some true = unfold pick in lit< tt
     some false = unfold pick in lit< tt
-
-pub pow-most : (n : ℕ) → n ≤ 16 → 2 ^ n ≤ 65536
-pow-most n h = pow-mono {i = n} {j = 16} h
 
 -- one turn of the loop
 pub turn : (k g count at : ℕ) (state now after : List ℕ) → at ≡ spot k g → now ≡ cleared k g count state → length after ≡ 6 * count

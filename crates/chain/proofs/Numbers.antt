@@ -99,5 +99,5 @@ answer-over n kind g frame state reply laid now hg ls lf lr el e = e ∙ rw el (
     go : (b : Bool) → eqb kind 2 ≡ b
         → pick b (splice 4 (answers n g state) (over (silence (length frame)) reply)) (over (silence (length frame)) reply)
         ≡ over (pick b (silence 4 ++ answers n g state) (silence (length frame))) reply
-    go true p = unfold pick in over-silence n g state hg ls (length frame) reply (lf ∙ length-long n kind (λ q. omega (arith, eqb-true kind 2 p))) lr
+    go true p = unfold pick in over-silence n g state hg ls (length frame) reply (lf ∙ length-long n kind (omega (arith, eqb-true kind 2 p))) lr
     go false p = unfold pick in refl

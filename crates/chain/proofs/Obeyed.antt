@@ -5,7 +5,7 @@ use mathlib.Core.Bool.{Bool, true, false}
 use mathlib.Core.List.{List}
 use Prim.Native.Nat.{ℕ, _+_, _-_, _*_, _^_, _≤_, _<_}
 use native.Mathlib.Omega.{arith}
-use borrow.Author.Tests.{eqb-true}
+use borrow.Author.Tests.{eqb-true, ne-eqb, lt-ltb}
 use borrow.Rule.Slice.PartMut.{putMid}
 use lib.ListN.{length}
 use Rattle.lent.specs.Bytes.{Bytes}
@@ -38,6 +38,15 @@ module _ (n kind g : ℕ) (frame state reply : List ℕ) where
   unfolding report changed pick
   obeyed-clear word count state′ e w c s = (rw e w, rw (e, ← c) s, rw e)
 
+  pub obeyed-conversion : (word : ℕ) → 3 < kind → word ≡ 2 ^ n - 1
+      → (word ≡ report n kind frame) × (state ≡ changed n kind g frame state) × (reply ≡ pick (isRead kind) (splice 4 (answers n g state) reply) reply)
+  unfolding report changed pick
+  obeyed-conversion word h w =
+      let e1 = ne-eqb kind 1 (λ e. omega arith) in
+      let e2 = ne-eqb kind 2 (λ e. omega arith) in
+      let e3 = ne-eqb kind 3 (λ e. omega arith) in
+      (rw (e1, lt-ltb 2 kind (omega arith)) w, rw (e1, e3), rw e2)
+
 pub length-changed : (n kind g : ℕ) (frame state : List ℕ) → g < 18 → length frame ≡ frameLength n kind → (kind ≡ 3 → g + clearCount g ≤ 18)
     → length state ≡ stateLength n → length (changed n kind g frame state) ≡ stateLength n
 unfolding changed
@@ -46,7 +55,7 @@ length-changed n kind g frame state hg long room whole = by-kind (isWrite kind) 
     by-kind : (w : Bool) → isWrite kind ≡ w → (c : Bool) → isClear kind ≡ c
         → length (pick w (written n n g frame state) (pick c (cleared n g (clearCount g) state) state)) ≡ stateLength n
     by-kind true w c e = unfold pick in
-        length-written n g frame state hg (long ∙ length-long n kind (λ q. omega (arith, eqb-true kind 1 w))) whole n (omega arith)
+        length-written n g frame state hg (long ∙ length-long n kind (omega (arith, eqb-true kind 1 w))) whole n (omega arith)
     by-kind false w true e = unfold pick in length-cleared n g (clearCount g) state (room (eqb-true kind 3 e)) whole n (omega arith)
     by-kind false w false e = unfold pick in whole
 

@@ -52,6 +52,9 @@ pow-step k = rw (add-one, pow-suc)
 pub bit-small : (n k : ℕ) → k < n → n ≤ 16 → 2 ^ k ≤ 32768
 bit-small n k h l = pow-mono {i = k} {j = 15} (omega arith)
 
+pub pow-most : (n : ℕ) → n ≤ 16 → 2 ^ n ≤ 65536
+pow-most n h = pow-mono {i = n} {j = 16} h
+
 -- THE REGISTERS
 module _ (n g : ℕ) (frame state : List ℕ) (hg : g < 18) (lf : length frame ≡ 4 + 8 * n) (whole : length state ≡ stateLength n) where
   pub length-written : (j : ℕ) → j ≤ n → length (written n j g frame state) ≡ stateLength n

@@ -15,7 +15,7 @@ use Rattle.chain.specs.State.{stateLength}
 use Rattle.chain.specs.Effect.{silence, answer, changed, report}
 use Rattle.chain.specs.declared.Heard.{Heard}
 
--- The command that a frame asks for. A first byte with any of its top five bits set gives a code that no row of the table has.
+-- The command that a frame asks for. A first byte with any of its top five bits set gives a code that neither a row of the table nor a conversion has.
 unfoldable pub codeOf : List ℕ → ℕ
 codeOf frame = getD frame 0 0 * 256 + getD frame 1 0
 

@@ -8,7 +8,7 @@ use Rattle.lent.specs.Memory.{splice}
 use Rattle.lent.specs.Refusal.{pick}
 use Rattle.lent.specs.Word.{bitsWhere}
 use Rattle.pec.specs.Group.{withPec, right}
-use Rattle.frames.specs.Kind.{isWrite, isRead, isClear}
+use Rattle.frames.specs.Kind.{isWrite, isRead, isClear, isShort}
 use Rattle.frames.specs.Places.{wire}
 use Rattle.chain.specs.State.{spot, stored, storing}
 
@@ -45,10 +45,10 @@ cleared (suc k) g count state = splice (spot k g) (silence (6 * count)) (cleared
 unfoldable pub answer : ℕ → ℕ → ℕ → List ℕ → List ℕ → List ℕ
 answer n kind g frame state = pick (isRead kind) (silence 4 ++ answers n g state) (silence (length frame))
 
--- the state
+-- the state: a read and a conversion leave it
 unfoldable pub changed : ℕ → ℕ → ℕ → List ℕ → List ℕ → List ℕ
 changed n kind g frame state = pick (isWrite kind) (written n n g frame state) (pick (isClear kind) (cleared n g (clearCount g) state) state)
 
--- the word: who stored on a write, the low n bits on a clear, 0 on a read
+-- the word: who stored on a write, the low n bits on a clear or a conversion, 0 on a read
 unfoldable pub report : ℕ → ℕ → List ℕ → ℕ
-report n kind frame = pick (isWrite kind) (storedBits n n frame) (pick (isClear kind) (2 ^ n - 1) 0)
+report n kind frame = pick (isWrite kind) (storedBits n n frame) (pick (isShort kind) (2 ^ n - 1) 0)

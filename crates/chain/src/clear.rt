@@ -1,6 +1,6 @@
 // A clear: groups of every device become 0xFF.
 ghost use mathlib.Core.Path.{_≡_};
-ghost use Prim.Native.Nat.{_+_, _-_, _^_, _≤_, _<_};
+ghost use Prim.Native.Nat.{_+_, _≤_, _<_};
 ghost use lib.ListN.{length};
 ghost use Rattle.chain.specs.State.{stateLength};
 ghost use Rattle.chain.specs.Effect.{clearCount, cleared};
@@ -13,19 +13,16 @@ pub fn clear_count(group: usize) -> usize
     if group == 2 { 6 } else { 4 }
 }
 
-// `count` groups from `group` on, of every device. The word has the low n bits set.
-pub fn clear_groups(n: usize, group: usize, count: usize, state: &mut [u8]) -> u16
+// `count` groups from `group` on, of every device.
+pub fn clear_groups(n: usize, group: usize, count: usize, state: &mut [u8])
     requires { ⌜ (n ≤ 16) × (0 < count) × (group + count ≤ 18) × (length (now state) ≡ stateLength n) ⌝ }
-    ensures { λ r. ⌜ (r ≡ 2 ^ n - 1) × (now (state .exit) ≡ cleared n group count (now (state .entry))) ⌝ }
+    ensures { λ _. ⌜ now (state .exit) ≡ cleared n group count (now (state .entry)) ⌝ }
 {
     let size = 6 * count;
     let mut k = 0;
-    let mut bit: u32 = 1;
     while k < n {
         let at = spot(k, group);
         lent::fill(&mut state[at..at + size], 255);
-        bit *= 2;
         k += 1;
     }
-    (bit - 1) as u16
 }

@@ -1,6 +1,6 @@
 // The chain: a model of 1 to 16 devices, their registers in lent state.
 ghost use mathlib.Core.Path.{_≡_};
-ghost use Prim.Native.Nat.{_+_, _<_, _≤_};
+ghost use Prim.Native.Nat.{_+_, _-_, _^_, _<_, _≤_};
 ghost use lib.ListN.{length};
 ghost use Rattle.lent.specs.Memory.{splice};
 ghost use Rattle.lent.specs.Refusal.{pick};
@@ -24,6 +24,15 @@ pub struct Heard {
     pub word: u16,
 }
 
+// The word of a command that every device obeys: the low n bits.
+fn everyone(n: usize) -> u16
+    requires { ⌜ n ≤ 16 ⌝ }
+    ensures { λ r. ⌜ r ≡ 2 ^ n - 1 ⌝ }
+{
+    let above: u32 = 1 << n;
+    (above - 1) as u16
+}
+
 // What a good frame does to the state and to a reply of silence, by the kind of its command; the word.
 fn obey(
     table: &[u16; 256],
@@ -34,7 +43,7 @@ fn obey(
     state: &mut [u8],
     reply: &mut [u8],
 ) -> u16
-    requires { ⌜ (now table ≡ remainders) × (n ≤ 16) × (0 < kind) × (kind < 4) × (group < 18) × (kind ≡ 3 → group + clearCount group ≤ 18) × (length (now frame) ≡ frameLength n kind) × (length (now state) ≡ stateLength n) × (length (now frame) ≤ length (now reply)) ⌝ }
+    requires { ⌜ (now table ≡ remainders) × (n ≤ 16) × (0 < kind) × (group < 18) × (kind ≡ 3 → group + clearCount group ≤ 18) × (length (now frame) ≡ frameLength n kind) × (length (now state) ≡ stateLength n) × (length (now frame) ≤ length (now reply)) ⌝ }
     ensures { λ r. ⌜ (r ≡ report n kind (now (frame .entry)))
         × (now (state .exit) ≡ changed n kind group (now (frame .entry)) (now (state .entry)))
         × (now (reply .exit) ≡ pick (isRead kind) (splice 4 (answers n group (now (state .entry))) (now (reply .entry))) (now (reply .entry))) ⌝ }
@@ -47,8 +56,13 @@ fn obey(
         read::put_answers(table, n, group, &state[..], &mut reply[4..end]);
         return 0;
     }
-    let count = clear::clear_count(group);
-    clear::clear_groups(n, group, count, state)
+    if kind == commands::CLEAR {
+        let count = clear::clear_count(group);
+        clear::clear_groups(n, group, count, state);
+        return everyone(n);
+    }
+    // A conversion: every device obeys, and no register changes.
+    everyone(n)
 }
 
 // What 1 to 16 devices hear of a frame, where the lent state and reply are as long as they have to be.

@@ -8,6 +8,9 @@ const RDCVA: u32 = 0x004;
 
 const CLRCELL: u32 = 0x711;
 
+// ADCV, all cells at 7 kHz.
+const ADCV: u32 = 0x360;
+
 // One byte of the frame or of the reply that is hit, and the bits of it that are flipped.
 struct Hit {
     at: usize,
@@ -106,9 +109,16 @@ fn clear_under_noise(n: u32, state: &mut [u8]) {
     frame_and_read(n, CLRCELL, b"", quiet(), RDCVA, state);
 }
 
+// The registers stay, whether it is heard or not.
+fn conversion_under_noise(n: u32, state: &mut [u8]) {
+    frame_and_read(n, ADCV, b"", command_hit(), RDCVA, state);
+    frame_and_read(n, ADCV, b"", quiet(), RDCVA, state);
+}
+
 fn show(n: u32, old: &[u8], new: &[u8], state: &mut [u8]) {
     write_under_noise(n, old, new, state);
     read_under_noise(n, state);
+    conversion_under_noise(n, state);
     clear_under_noise(n, state);
 }
 

@@ -1,7 +1,7 @@
 -- A frame in lent memory: the command group first, and then what its kind puts behind it. Assumes nothing.
 use mathlib.Core.Path.{_≡_, ap, _∙_}
 use mathlib.Core.List.{List, _++_, append-nil}
-use Prim.Native.Nat.{ℕ, _+_, _-_, _*_, _≤_}
+use Prim.Native.Nat.{ℕ, _+_, _-_, _*_, _≤_, _<_}
 use native.Mathlib.Omega.{arith}
 use lib.ListN.{length, drop}
 use borrow.Rule.Slice.PartMut.{putMid}
@@ -11,7 +11,7 @@ use Rattle.pec.specs.Group.{twoBytes, withPec}
 use Rattle.pec.proofs.Group.{length-withPec}
 use Rattle.frames.specs.Commands.{kindOf}
 use Rattle.frames.specs.Frame.{frameBody, frameOf}
-use Rattle.frames.proofs.KindCases.{body-clear}
+use Rattle.frames.proofs.KindCases.{body-short}
 
 pub length-command : (code : ℕ) → length (withPec (twoBytes code)) ≡ 4
 unfolding twoBytes
@@ -28,6 +28,6 @@ module _ (n code kind : ℕ) (bytes out command : List ℕ) (ek : kind ≡ kindO
       ap (λ (x : List ℕ). putMid 4 (4 + 8 * n - 4) x body) start ∙ over-more command body out 4 (4 + 8 * n) four (omega arith) lo ∙ rw (ec, ← ek, eb)
 
   -- the command group alone
-  pub frame-alone : kind ≡ 3 → command ++ drop 4 out ≡ over (frameOf n code bytes) out
+  pub frame-alone : 2 < kind → command ++ drop 4 out ≡ over (frameOf n code bytes) out
   unfolding frameOf over
-  frame-alone e = rw (← ek, body-clear n kind bytes e, append-nil, ec, length-command code)
+  frame-alone e = rw (← ek, body-short n kind bytes e, append-nil, ec, length-command code)

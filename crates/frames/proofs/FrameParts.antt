@@ -24,8 +24,9 @@ use Rattle.frames.specs.Places.{six, wire}
 use Rattle.frames.specs.Frame.{writeGroups, frameBody, frameOf}
 use Rattle.frames.specs.Writer.{writerNumber, writerLength, writerOut, Wrote}
 use Rattle.frames.specs.declared.writer.Written.{Written}
-use Rattle.frames.proofs.Lookup.{kind-below, known-below}
+use Rattle.frames.proofs.Lookup.{known-below}
 use Rattle.frames.proofs.GroupLaws.{length-six, length-writeGroups}
+use Rattle.frames.proofs.KindCases.{length-short, body-short}
 use Rattle.frames.proofs.FrameLaws.{length-command}
 
 -- what a number 0 of the writer tells, and what gives it
@@ -56,19 +57,22 @@ makes n code d o m = simp (m .size, ne-eqb _ _ (m .known), eq-eqb _ _ (m .needed
 
 -- the frame is as long as its kind says
 module _ (n code : ℕ) (bytes : List ℕ) where
-  length-by : (kind : ℕ) → kind < 4 → (kind ≡ 0 → ⊥) → length bytes ≡ dataNeeded n kind → length (withPec (twoBytes code) ++ frameBody n kind bytes) ≡ frameLength n kind
+  length-by : (kind : ℕ) → (kind ≡ 0 → ⊥) → length bytes ≡ dataNeeded n kind → length (withPec (twoBytes code) ++ frameBody n kind bytes) ≡ frameLength n kind
   unfolding frameBody frameLength dataNeeded pick
-  length-by zero h z e = absurd (z refl)
-  length-by (suc zero) h z e =
+  length-by zero z e = absurd (z refl)
+  length-by (suc zero) z e =
       length-append (withPec (twoBytes code)) (writeGroups n bytes) ∙ omega (arith, length-command code, length-writeGroups n bytes (omega arith))
-  length-by (suc (suc zero)) h z e =
+  length-by (suc (suc zero)) z e =
       length-append (withPec (twoBytes code)) (replicate (8 * n) 255) ∙ omega (arith, length-command code, length-replicate {A = ℕ} (8 * n) 255)
-  length-by (suc (suc (suc zero))) h z e = ap length (append-nil (withPec (twoBytes code))) ∙ length-command code
-  length-by (suc (suc (suc (suc k)))) h z e = absurd (omega arith)
+  length-by (suc (suc (suc k))) z e =
+      ap (λ (l : List ℕ). length (withPec (twoBytes code) ++ l)) (body-short n (suc (suc (suc k))) bytes (omega arith))
+      ∙ ap length (append-nil (withPec (twoBytes code)))
+      ∙ length-command code
+      ∙ sym (length-short n (suc (suc (suc k))) (omega arith))
 
   pub length-frame : (kindOf code ≡ 0 → ⊥) → length bytes ≡ dataNeeded n (kindOf code) → length (frameOf n code bytes) ≡ frameLength n (kindOf code)
   unfolding frameOf
-  length-frame known needed = length-by (kindOf code) (kind-below code) known needed
+  length-frame known needed = length-by (kindOf code) known needed
 
   -- as many bytes of the output as the writer says are the frame
   pub frame-out : (out : List ℕ) (number : ℕ) → number ≡ 0 → length (frameOf n code bytes) ≡ frameLength n (kindOf code)

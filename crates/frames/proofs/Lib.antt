@@ -1,4 +1,7 @@
+pub mod ConversionLaws
+pub mod ConversionCases
 pub mod Lookup
+pub mod Undone
 pub mod KindCases
 pub mod Sizes
 pub mod GroupLaws

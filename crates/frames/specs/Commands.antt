@@ -1,8 +1,9 @@
--- The one table of 26 commands, row by row as 01 has it, and the one lookup. Assumes nothing.
+-- The one table of 26 commands, row by row as 01 has it, and the one lookup: where no row fits, it asks for a conversion. Assumes nothing.
 use Prim.Native.Nat.{ℕ}
 use mathlib.Core.List.{List, [], _∷_}
 use lib.Dec.{eqb}
 use Rattle.lent.specs.Refusal.{pick}
+use Rattle.frames.specs.Conversions.{isConversion}
 
 -- A code with its kind (1 write, 2 read, 3 clear) and the group that it writes or reads; of a clear, the first group that it sets.
 pub record Row : Type 0 where
@@ -37,9 +38,13 @@ rows =
     ∷ clear 0x711 2 ∷ clear 0x712 8  -- groups 2 to 7, groups 8 to 11
     ∷ []
 
--- the row of a code; where the table has none, kind 0, unknown
+-- where the table has no row: kind 4 for a conversion's code, and for any other kind 0, unknown
+unfoldable pub unlisted : ℕ → Row
+unlisted code = row code (pick (isConversion code) 4 0) 0
+
+-- the row of a code
 unfoldable pub found : ℕ → List Row → Row
-found code [] = row code 0 0
+found code [] = unlisted code
 found code (r ∷ rs) = pick (eqb (r .code) code) r (found code rs)
 
 unfoldable pub kindOf : ℕ → ℕ

@@ -13,7 +13,7 @@ unfoldable pub writeGroups : ℕ → List ℕ → List ℕ
 writeGroups zero bytes = []
 writeGroups (suc k) bytes = withPec (six k bytes) ++ writeGroups k bytes
 
--- behind the command group: the data groups of a write, the 0xFF clock bytes of a read, nothing of a clear
+-- behind the command group: the data groups of a write, the 0xFF clock bytes of a read, nothing of a clear or conversion
 unfoldable pub frameBody : ℕ → ℕ → List ℕ → List ℕ
 frameBody n kind bytes = pick (isWrite kind) (writeGroups n bytes) (pick (isRead kind) (replicate (8 * n) 255) [])
 

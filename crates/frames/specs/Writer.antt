@@ -19,7 +19,7 @@ writerNumber n code bytesLen outLen =
     first
     ((outside n, 1)  -- N not 1..16
     ∷ (isUnknown (kindOf code), 2)  -- command unknown
-    ∷ (not (eqb bytesLen (dataNeeded n (kindOf code))), 3)  -- write data not 6N, or any data for a read or clear
+    ∷ (not (eqb bytesLen (dataNeeded n (kindOf code))), 3)  -- write data not 6N, or any data for a read, clear or conversion
     ∷ (ltb outLen (frameLength n (kindOf code)), 5)  -- the lent output too short
     ∷ [])
 

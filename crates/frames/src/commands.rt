@@ -1,6 +1,7 @@
-// The one table of 26 commands, and the search by code that writer, chain and reader use.
+// The one table of 26 commands, and the search by code that writer, chain and reader use: where no row fits, it asks for a conversion.
 ghost use mathlib.Core.Path.{_≡_};
 ghost use Rattle.frames.specs.Commands.{kindOf, groupOf};
+use crate::conversions;
 
 // Row by row as document 01 has them: code, kind, and the group written or read; of a clear, the first group it sets.
 const CODES: [u32; 26] = [
@@ -98,12 +99,14 @@ pub const READ: u8 = 2;
 
 pub const CLEAR: u8 = 3;
 
+pub const CONVERSION: u8 = 4;
+
 pub struct Command {
     pub kind: u8,
     pub group: u8,
 }
 
-// The kind and group of a code; UNKNOWN where the table does not have it.
+// The kind and group of a code; UNKNOWN where neither the table nor a conversion has it.
 pub fn find(code: u32) -> Command
     ensures { λ r. ⌜ (r .kind ≡ kindOf code) × (r .group ≡ groupOf code) ⌝ }
 {
@@ -117,6 +120,12 @@ pub fn find(code: u32) -> Command
             };
         }
         i += 1;
+    }
+    if conversions::conversion_of(code).number == 0 {
+        return Command {
+            kind: CONVERSION,
+            group: 0,
+        };
     }
     Command {
         kind: UNKNOWN,

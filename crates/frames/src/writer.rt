@@ -30,11 +30,7 @@ pub fn frame_length(n: usize, kind: u8) -> usize
     requires { ⌜ n ≤ 16 ⌝ }
     ensures { λ r. ⌜ r ≡ frameLength n kind ⌝ }
 {
-    if kind == commands::CLEAR {
-        4
-    } else {
-        4 + 8 * n
-    }
+    if commands::READ < kind { 4 } else { 4 + 8 * n }
 }
 
 // The frame of a known command, laid over the start of an output that is long enough.

@@ -46,7 +46,7 @@ pub sweeps-from : (code h : ℕ) → kindOf code ≡ 3 → h < 18 → sweeps cod
 unfolding kindOf groupOf sweepTest
 sweeps-from code h e l =
     let t : (not (eqb (kindOf code) 3) || alike (sweeps (found code rows .code) h) (from-first h (found code rows))) ≡ true =
-    looked-up (sweepTest h) code refl (tested h l) in
+    looked-up (sweepTest h) code refl refl (tested h l) in
     ap (λ (c : ℕ). sweeps c h) (sym (found-code code rows)) ∙ alike-same (sweeps (found code rows .code) h) (from-first h (found code rows)) (rw e at t)
 
 module _ (n : ℕ) (n1 : 1 ≤ n) (n16 : n ≤ 16) (s : Sending) (state : List ℕ) (F : Fair n s) (whole : length state ≡ stateLength n) (c : kind s ≡ 3) where

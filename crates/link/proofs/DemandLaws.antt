@@ -130,6 +130,7 @@ module _ (n : ℕ) (a : 1 ≤ n) (b : n ≤ 16) (state : List ℕ) (are : Bytes 
     size = O .size;
     write = λ w. (stores w, O .write w .others, word-full w);
     clear = λ c. (sets c, O .clear c .word ∙ pick-false (lost s) 0 (2 ^ n - 1) good);
+    conversion = λ c. (O .conversion c .unchanged, O .conversion c .word ∙ pick-false (lost s) 0 (2 ^ n - 1) good);
     read = λ q. (gives q, marks q, O .read q .kept, O .read q .word, O .read q .asked);
     no-read = O .no-read;
   }

@@ -207,7 +207,7 @@ module _ (n code : ℕ) (bytes : List ℕ) (known : kindOf code ≡ 0 → ⊥) (
   pub group-hit-fair : kindOf code ≡ 1 → (k : ℕ) → k < n → Fair n (groupHit n code bytes k)
   unfolding Allowed wire
   group-hit-fair w k h =
-      let e : long ≡ 4 + 8 * n = length-long n (kindOf code) (λ q. omega arith) in
+      let e : long ≡ 4 + 8 * n = length-long n (kindOf code) (omega arith) in
       let at : ℕ = 4 + 8 * (n - 1 - k) in
       forth-fair (flipped at long) (flipped-bytes at long) (flipped-long at long (omega arith))
       (inl (before 4 at (1 ∷ replicate (long - suc at) 0) (omega arith)))
@@ -221,7 +221,7 @@ command-hit-lost n code bytes = refl
 pub group-hit-missed : (n code : ℕ) (bytes : List ℕ) → kindOf code ≡ 1 → (k : ℕ) → k < n → missed n (groupHit n code bytes k) k ≡ true
 unfolding missed lost wire
 group-hit-missed n code bytes w k h =
-    let e : frameLength n (kindOf code) ≡ 4 + 8 * n = length-long n (kindOf code) (λ q. omega arith) in
+    let e : frameLength n (kindOf code) ≡ 4 + 8 * n = length-long n (kindOf code) (omega arith) in
     let at : ℕ = 4 + 8 * (n - 1 - k) in
     ap₂ (λ (a b : Bool). a || b) (before 4 at (1 ∷ replicate (frameLength n (kindOf code) - suc at) 0) (omega arith))
     (group-hit at (frameLength n (kindOf code)) (omega arith))
@@ -231,7 +231,7 @@ pub reply-hit-fair : (n code k : ℕ) → kindOf code ≡ 2 → k < n → Fair n
 unfolding eight
 reply-hit-fair n code k r h =
     let long : ℕ = frameLength n (kindOf code) in
-    let e : long ≡ 4 + 8 * n = length-long n (kindOf code) (λ q. omega arith) in
+    let e : long ≡ 4 + 8 * n = length-long n (kindOf code) (omega arith) in
     let at : ℕ = 4 + 8 * k in
     back-fair n code [] (λ q. omega arith) (sym (needs-none n (kindOf code) (λ q. omega arith))) tt (flipped at long) (flipped-bytes at long)
     (flipped-long at long (omega arith)) (λ q j l. groups-allowed k j long (omega arith))
@@ -239,7 +239,7 @@ reply-hit-fair n code k r h =
 pub reply-hit-unread : (n code k : ℕ) → kindOf code ≡ 2 → k < n → unread (replyHit n code k) k ≡ true
 unfolding unread lost eight
 reply-hit-unread n code k r h =
-    let e : frameLength n (kindOf code) ≡ 4 + 8 * n = length-long n (kindOf code) (λ q. omega arith) in
+    let e : frameLength n (kindOf code) ≡ 4 + 8 * n = length-long n (kindOf code) (omega arith) in
     ap₂ (λ (a b : Bool). a || b) (unhit-take 4 (quiet n code) (unhit-zeros (frameLength n (kindOf code))))
     (group-hit (4 + 8 * k) (frameLength n (kindOf code)) (omega arith))
 

@@ -1,6 +1,7 @@
 pub mod Arrival
 pub mod WriteFrame
 pub mod ClearFrame
+pub mod ConversionFrame
 pub mod ReadFrame
 pub mod OneFrame
 pub mod Held

@@ -25,6 +25,7 @@ use Rattle.link.proofs.Arrival as Arrival
 use Rattle.link.proofs.WriteFrame.{writes}
 use Rattle.link.proofs.ReadFrame.{reads}
 use Rattle.link.proofs.ClearFrame.{clears}
+use Rattle.link.proofs.ConversionFrame.{converts}
 
 -- the step over what the two ways do to bytes
 stepBy : ℕ → Sending → List ℕ → (List ℕ → List ℕ) → (List ℕ → List ℕ) → Seen
@@ -41,17 +42,18 @@ unhit : (n : ℕ) (s : Sending) (state : List ℕ) → hit (s .forth) ≡ false 
 unfolding step stepBy arrives serves returns hands calm frame
 unhit n s state p q = ap₂ (stepBy n s state) (same-as-zeros (s .forth) p) (same-as-zeros (s .back) q)
 
--- a known kind is one of three
-three : (k : ℕ) → k < 4 → (k ≡ 0 → ⊥) → (k ≡ 1) ⊎ ((k ≡ 2) ⊎ (k ≡ 3))
-three zero h z = absurd (z refl)
-three (suc zero) h z = inl refl
-three (suc (suc zero)) h z = inr (inl refl)
-three (suc (suc (suc zero))) h z = inr (inr refl)
-three (suc (suc (suc (suc k)))) h z = absurd (omega arith)
+-- a known kind is one of four
+four : (k : ℕ) → k < 5 → (k ≡ 0 → ⊥) → (k ≡ 1) ⊎ ((k ≡ 2) ⊎ ((k ≡ 3) ⊎ (k ≡ 4)))
+four zero h z = absurd (z refl)
+four (suc zero) h z = inl refl
+four (suc (suc zero)) h z = inr (inl refl)
+four (suc (suc (suc zero))) h z = inr (inr (inl refl))
+four (suc (suc (suc (suc zero)))) h z = inr (inr (inr refl))
+four (suc (suc (suc (suc (suc k))))) h z = absurd (omega arith)
 
 module _ (n : ℕ) (n1 : 1 ≤ n) (n16 : n ≤ 16) (s : Sending) (state : List ℕ) (F : Fair n s) (are : Bytes state) (whole : length state ≡ stateLength n) where
-  kinds : (kind s ≡ 1) ⊎ ((kind s ≡ 2) ⊎ (kind s ≡ 3))
-  kinds = three (kind s) (kind-below (s .code)) (F .known)
+  kinds : (kind s ≡ 1) ⊎ ((kind s ≡ 2) ⊎ ((kind s ≡ 3) ⊎ (kind s ≡ 4)))
+  kinds = four (kind s) (kind-below (s .code)) (F .known)
 
   made : step ours n s state .made ≡ 0
   unfolding step
@@ -93,6 +95,7 @@ module _ (n : ℕ) (n1 : 1 ≤ n) (n16 : n ≤ 16) (s : Sending) (state : List �
     write = λ w. writes n n1 n16 s state F whole w;
     read = λ q. reads n n1 n16 s state F are whole q;
     clear = λ c. clears n n1 n16 s state F whole c;
+    conversion = λ c. converts n n1 n16 s state F whole c;
     no-read = no-read;
     unhit = unhit n s state;
   }

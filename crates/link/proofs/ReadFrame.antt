@@ -4,7 +4,7 @@ use mathlib.Core.Path.{_≡_, refl, sym, ap, _∙_}
 use mathlib.Core.Bool.{Bool, true, false, not, _||_}
 use mathlib.Core.Logic.{⊎-elim}
 use mathlib.Core.List.{List, _++_}
-use Prim.Native.Nat.{ℕ, _+_, _*_, _-_, _≤_, _<_}
+use Prim.Native.Nat.{ℕ, _+_, _*_, _≤_, _<_}
 use native.Mathlib.Omega.{arith}
 use borrow.Author.Tests.{eqb-true, eqb-false, eq-eqb, ne-eqb}
 use lib.Dec.{eqb}
@@ -97,7 +97,7 @@ module _ (n : ℕ) (n1 : 1 ≤ n) (n16 : n ≤ 16) (s : Sending) (state : List �
   g18 = group-below (s .code)
 
   long : frameLength n (kind s) ≡ 4 + 8 * n
-  long = length-long n (kind s) (λ e. omega arith)
+  long = length-long n (kind s) (omega arith)
 
   -- a command that was hit on the way out: nothing was hit on the way back
   quiet-back : lost s ≡ true → hit (s .back) ≡ false

@@ -36,7 +36,7 @@ sweep-not false false x y = refl
 module _ (R : Rig) (n : ℕ) (s : Sending) (before : List ℕ) (r : Seen) (O : Obeys R n s before r) where
   taken : (k h : ℕ) → k < n → h < 18 → stored k h (r .registers) ≡ takes n k h s (stored k h before)
   unfolding takes pick
-  taken k h lk lh = ⊎-elim write (⊎-elim read clear) (O .kinds)
+  taken k h lk lh = ⊎-elim write (⊎-elim read (⊎-elim clear conversion)) (O .kinds)
     where
       old : List ℕ
       old = stored k h before
@@ -58,6 +58,9 @@ module _ (R : Rig) (n : ℕ) (s : Sending) (before : List ℕ) (r : Seen) (O : O
 
       clear : kind s ≡ 3 → stored k h (r .registers) ≡ takes n k h s old
       clear c = O .clear c .all k h lk lh ∙ sweep-not (sweeps (s .code) h) (lost s) (replicate 6 255) old ∙ rw c
+
+      conversion : kind s ≡ 4 → stored k h (r .registers) ≡ takes n k h s old
+      conversion c = ap (stored k h) (O .conversion c .unchanged) ∙ rw c
 
 -- THE RUN
 module _ (R : Rig) (d : Demand3 R) (n : ℕ) (a : 1 ≤ n) (b : n ≤ 16) where
@@ -97,19 +100,19 @@ module _ (R R′ : Rig) (n : ℕ) (s : Sending) (before : List ℕ) (r r′ : Se
   pub same-word : r .word ≡ r′ .word
   same-word =
       ⊎-elim (λ w. bits-ext n (r .word) (r′ .word) (O .write w .no-more) (O′ .write w .no-more) (λ k h. O .write w .word k h ∙ sym (O′ .write w .word k h)))
-      (⊎-elim (λ q. O .read q .word ∙ sym (O′ .read q .word)) (λ c. O .clear c .word ∙ sym (O′ .clear c .word)))
+      (⊎-elim (λ q. O .read q .word ∙ sym (O′ .read q .word)) (⊎-elim (λ c. O .clear c .word ∙ sym (O′ .clear c .word)) (λ c. O .conversion c .word ∙ sym (O′ .conversion c .word))))
       (O .kinds)
 
   pub same-numbers : (r .made ≡ r′ .made) × (r .number ≡ r′ .number)
   same-numbers = (O .made ∙ sym (O′ .made), O .number ∙ sym (O′ .number))
 
   pub same-asked : r .asked ≡ r′ .asked
-  same-asked = ⊎-elim (λ w. other (λ q. omega arith)) (⊎-elim (λ q. O .read q .asked ∙ sym (O′ .read q .asked)) (λ c. other (λ q. omega arith))) (O .kinds)
+  same-asked = ⊎-elim (λ w. other (λ q. omega arith)) (⊎-elim (λ q. O .read q .asked ∙ sym (O′ .read q .asked)) (⊎-elim (λ c. other (λ q. omega arith)) (λ c. other (λ q. omega arith)))) (O .kinds)
     where
       other : (kind s ≡ 2 → ⊥) → r .asked ≡ r′ .asked
       other x = O .no-read x .0 ∙ sym (O′ .no-read x .0)
 
-  -- after a write or clear all that was lent to the reader is as it was
+  -- after any other frame all that was lent to the reader is as it was
   pub same-unread : (kind s ≡ 2 → ⊥) → (r .bytes ≡ r′ .bytes) × (r .marks ≡ r′ .marks)
   same-unread x = (O .no-read x .1 ∙ sym (O′ .no-read x .1), O .no-read x .2 ∙ sym (O′ .no-read x .2))
 

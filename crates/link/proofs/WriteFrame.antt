@@ -34,11 +34,11 @@ module _ (n : ℕ) (n1 : 1 ≤ n) (n16 : n ≤ 16) (s : Sending) (state : List �
   g18 : group s < 18
   g18 = group-below (s .code)
 
-  not-clear : kind s ≡ 3 → ⊥
-  not-clear e = omega arith
+  long-kind : kind s ≤ 2
+  long-kind = omega arith
 
   arrives-long : length (arrives ours n s) ≡ 4 + 8 * n
-  arrives-long = Arrival.arrives-long n n1 n16 s state F whole ∙ length-long n (kind s) not-clear
+  arrives-long = Arrival.arrives-long n n1 n16 s state F whole ∙ length-long n (kind s) long-kind
 
   pub bytes-long : length (s .bytes) ≡ 6 * n
   bytes-long = F .needed ∙ needs-data n (kind s) w
@@ -59,7 +59,7 @@ module _ (n : ℕ) (n1 : 1 ≤ n) (n16 : n ≤ 16) (s : Sending) (state : List �
   mask-bytes k = bytes-part 8 (4 + 8 * (n - 1 - k)) (s .forth) (F .forth-bytes)
 
   mask-long : (k : ℕ) → k < n → length (wire n k (s .forth)) ≡ 8
-  mask-long k h = length-wire n k (s .forth) h (F .forth-long ∙ length-long n (kind s) not-clear)
+  mask-long k h = length-wire n k (s .forth) h (F .forth-long ∙ length-long n (kind s) long-kind)
 
   pub wire-right : (k : ℕ) → k < n → right (wire n k (arrives ours n s)) ≡ not (hit (wire n k (s .forth)))
   wire-right k h =

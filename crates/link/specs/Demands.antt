@@ -35,7 +35,7 @@ Obeyed R n registers [] (r ∷ rs) = ⊥
 Obeyed R n registers (s ∷ ss) [] = ⊥
 Obeyed R n registers (s ∷ ss) (r ∷ rs) = Obeys R n s registers r × Obeyed R n (r .registers) ss rs
 
--- DEMAND 3. "Take a chain in any state and any run of write, read and clear frames that our writer made for its size."
+-- DEMAND 3. "Take a chain in any state and any run of write, read and clear frames that our writer made for its size"; conversions count with the clears.
 abbrev pub Demand3 : Rig → Type 0
 Demand3 R =
     (n : ℕ) → 1 ≤ n → n ≤ 16 → (state : List ℕ) → Bytes state → length state ≡ stateLength n
@@ -63,6 +63,8 @@ pub record Undisturbed (n : ℕ) (s : Sending) (before : List ℕ) (r : Seen) : 
   pub clear : kind s ≡ 3
       → ((k h : ℕ) → k < n → h < 18 → stored k h (r .registers) ≡ pick (sweeps (s .code) h) (replicate 6 255) (stored k h before))
       × (r .word ≡ 2 ^ n - 1)
+  -- a conversion: no register changes, and the word says that every device heard it
+  pub conversion : kind s ≡ 4 → (r .registers ≡ before) × (r .word ≡ 2 ^ n - 1)
   -- a read: what every device holds, each marked as read, and no register changes
   pub read : kind s ≡ 2
       → (r .bytes ≡ over (held n (group s) before) (s .read))
@@ -70,7 +72,7 @@ pub record Undisturbed (n : ℕ) (s : Sending) (before : List ℕ) (r : Seen) : 
       × (r .registers ≡ before)
       × (r .word ≡ 0)
       × (r .asked ≡ 0)
-  -- after a write or clear the reader refuses, and touches nothing
+  -- after any other frame the reader refuses, and touches nothing
   pub no-read : (kind s ≡ 2 → ⊥) → (r .asked ≡ 7) × (r .bytes ≡ s .read) × (r .marks ≡ s .marks)
 
 -- every quiet frame, and a write that is read back

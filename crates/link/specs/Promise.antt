@@ -56,6 +56,11 @@ pub record Clears (n : ℕ) (s : Sending) (before : List ℕ) (r : Seen) : Type 
       → stored k h (r .registers) ≡ pick (lost s || not (sweeps (s .code) h)) (stored k h before) (replicate 6 255)
   pub word : r .word ≡ pick (lost s) 0 (2 ^ n - 1)
 
+-- A CONVERSION counts with the clears (02, K1): it acts exactly when its command was not hit, and the low n bits of the word say so. No register changes.
+pub record Converts (n : ℕ) (s : Sending) (before : List ℕ) (r : Seen) : Type 0 where
+  pub unchanged : r .registers ≡ before
+  pub word : r .word ≡ pick (lost s) 0 (2 ^ n - 1)
+
 -- ONE FRAME. The writer makes it; the chain gives 0, or 4 where the command was hit. The reader, asked after every frame, refuses what is no read, and
 -- touches nothing then. "A frame not hit is handled as if noise had never come, on the registers as they stand."
 pub record Obeys (R : Rig) (n : ℕ) (s : Sending) (before : List ℕ) (r : Seen) : Type 0 where
@@ -63,9 +68,10 @@ pub record Obeys (R : Rig) (n : ℕ) (s : Sending) (before : List ℕ) (r : Seen
   pub number : r .number ≡ pick (lost s) 4 0
   pub size : length (r .registers) ≡ stateLength n
   pub are-bytes : Bytes (r .registers)
-  pub kinds : (kind s ≡ 1) ⊎ ((kind s ≡ 2) ⊎ (kind s ≡ 3))
+  pub kinds : (kind s ≡ 1) ⊎ ((kind s ≡ 2) ⊎ ((kind s ≡ 3) ⊎ (kind s ≡ 4)))
   pub write : kind s ≡ 1 → Writes n s before r
   pub read : kind s ≡ 2 → Reads n s before r
   pub clear : kind s ≡ 3 → Clears n s before r
+  pub conversion : kind s ≡ 4 → Converts n s before r
   pub no-read : (kind s ≡ 2 → ⊥) → (r .asked ≡ 7) × (r .bytes ≡ s .read) × (r .marks ≡ s .marks)
   pub unhit : hit (s .forth) ≡ false → hit (s .back) ≡ false → r ≡ step R n (calm s) before

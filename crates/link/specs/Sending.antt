@@ -22,17 +22,18 @@ pub record Sending : Type 0 where
   pub forth : List ℕ
   pub back : List ℕ
 
--- its kind (1 write, 2 read, 3 clear, 0 unknown), and the group that it writes or reads
+-- its kind (1 write, 2 read, 3 clear, 4 conversion, 0 unknown), and the group that it writes or reads
 abbrev pub kind : Sending → ℕ
 kind s = kindOf (s .code)
 
 abbrev pub group : Sending → ℕ
 group s = groupOf (s .code)
 
--- "any run of write, read and clear frames that our writer made for its size": a command of the table with the data that it takes, and room enough lent.
+-- "any run of write, read and clear frames that our writer made for its size": a command of the table, or since 02's K1 a conversion, with the data that
+-- it takes, and room enough lent.
 -- "Noise may flip bits in a frame on the way out or on the way back, not both, with the flips in any one group lying within 15 neighbouring bits": a mask a
 -- way, as long as the frame, at most one of the two hit, and in each group what `Allowed` names. Clock bytes, the first four bytes of a reply and the
--- replies to a write or a clear may be hit at will.
+-- replies to a write, a clear or a conversion may be hit at will.
 pub record Fair (n : ℕ) (s : Sending) : Type 0 where
   pub known : kind s ≡ 0 → ⊥
   pub needed : length (s .bytes) ≡ dataNeeded n (kind s)

@@ -16,7 +16,7 @@ use Rattle.link.specs.Step.{step}
 use Rattle.link.specs.Promise.{lost, missed, unread, sweeps}
 use Rattle.link.specs.Demands.{AllFair, after}
 
--- device k + 1's group h after one frame, and after a run
+-- device k + 1's group h after one frame, and after a run: a read and a conversion leave it
 unfoldable pub takes : ℕ → ℕ → ℕ → Sending → List ℕ → List ℕ
 takes n k h s old =
     pick (isWrite (kind s)) (pick (eqb h (group s) && not (missed n s k)) (six k (s .bytes)) old)

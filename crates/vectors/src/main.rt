@@ -3,6 +3,7 @@
 mod cells_cases;
 mod chain_cases;
 mod command_cases;
+mod conversion_cases;
 mod reader_cases;
 mod tally_cases;
 mod wake_cases;
@@ -12,6 +13,7 @@ mod writer_cases;
 fn main() {
     words::show();
     command_cases::show();
+    conversion_cases::show();
     writer_cases::show();
     chain_cases::show();
     wake_cases::show();

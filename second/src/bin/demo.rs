@@ -8,6 +8,7 @@ const WRCFGA: u32 = 0x001;
 const RDCFGA: u32 = 0x002;
 const RDCVA: u32 = 0x004;
 const CLRCELL: u32 = 0x711;
+const ADCV: u32 = 0x360;
 
 /// One byte that is hit on its way, and the bits of it that are flipped.
 #[derive(Clone, Copy)]
@@ -61,7 +62,7 @@ fn show(n: u32) {
     let old: Vec<u8> = (0x10..).take(size).collect();
     let new: Vec<u8> = (0x80..).take(size).collect();
     let mut state = vec![7; 18 * size];
-    let frames: [(u32, &[u8], Hit, Hit); 12] = [
+    let frames: [(u32, &[u8], Hit, Hit); 16] = [
         (WRCFGA, &old, QUIET, QUIET),
         (RDCFGA, &[], QUIET, QUIET),
         (WRCFGA, &new, COMMAND, QUIET),
@@ -70,6 +71,10 @@ fn show(n: u32) {
         (RDCFGA, &[], QUIET, QUIET),
         (RDCFGA, &[], QUIET, NEAR_ANSWER),
         (RDCFGA, &[], COMMAND, QUIET),
+        (ADCV, &[], COMMAND, QUIET),
+        (RDCVA, &[], QUIET, QUIET),
+        (ADCV, &[], QUIET, QUIET),
+        (RDCVA, &[], QUIET, QUIET),
         (CLRCELL, &[], COMMAND, QUIET),
         (RDCVA, &[], QUIET, QUIET),
         (CLRCELL, &[], QUIET, QUIET),

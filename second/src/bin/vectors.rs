@@ -8,6 +8,8 @@ mod chain;
 mod check;
 #[path = "vectors/commands.rs"]
 mod commands;
+#[path = "vectors/conversions.rs"]
+mod conversions;
 #[path = "vectors/page.rs"]
 mod page;
 #[path = "vectors/pieces.rs"]
@@ -28,10 +30,11 @@ use std::process::ExitCode;
 /// The words of a heading and what writes the lines below it.
 type Section = (&'static str, fn(&mut Page));
 
-const SECTIONS: [Section; 9] = [
+const SECTIONS: [Section; 10] = [
     ("check words", check::words),
     ("table entries", check::entries),
     ("commands", commands::section),
+    ("conversions", conversions::section),
     ("writer", writer::section),
     ("chain", chain::section),
     ("wake", wake::section),

@@ -3,6 +3,7 @@
 
 use second::cells::{self, Readings};
 use second::chain::{self, Heard};
+use second::conversions::{self, Code, Conversion};
 use second::tally::{self, Tally};
 use second::wake::{self, Wait};
 use second::writer::{self, Written};
@@ -39,6 +40,20 @@ mod c {
         pub wrong: u32,
         pub silent: u32,
     }
+    #[repr(C)]
+    pub struct Code {
+        pub number: u8,
+        pub code: u16,
+    }
+    #[repr(C)]
+    pub struct Conversion {
+        pub number: u8,
+        pub command: u32,
+        pub mode: u32,
+        pub discharge: u32,
+        pub pull_up: u32,
+        pub choice: u32,
+    }
 }
 
 #[rustfmt::skip]
@@ -50,6 +65,8 @@ extern "C" {
     fn rig_cells(groups: *const u8, groups_len: usize, marks: *const u8, marks_len: usize) -> c::Readings;
     fn rig_tally_add(tally: *mut c::Tally, marks: *const u8, marks_len: usize) -> u8;
     fn rig_wake(n: u32, last: u32, now: u32) -> c::Wait;
+    fn rig_conversion_code(command: u32, mode: u32, discharge: u32, pull_up: u32, choice: u32) -> c::Code;
+    fn rig_conversion_of(code: u32) -> c::Conversion;
 }
 
 thread_local! {
@@ -259,7 +276,41 @@ pub fn wake(n: u32, last: u32, now: u32) -> Wait {
     got
 }
 
-/// Length 0 at NULL is taken by every entry.
+pub fn conversion_code(command: u32, mode: u32, discharge: u32, pull_up: u32, choice: u32) -> Code {
+    count();
+    let c = unsafe { rig_conversion_code(command, mode, discharge, pull_up, choice) };
+    let got = Code {
+        number: c.number,
+        code: c.code,
+    };
+    assert_eq!(
+        got,
+        conversions::conversion_code(command, mode, discharge, pull_up, choice),
+        "conversion code of {command}, {mode}, {discharge}, {pull_up}, {choice}"
+    );
+    got
+}
+
+pub fn conversion_of(code: u32) -> Conversion {
+    count();
+    let c = unsafe { rig_conversion_of(code) };
+    let got = Conversion {
+        number: c.number,
+        command: c.command,
+        mode: c.mode,
+        discharge: c.discharge,
+        pull_up: c.pull_up,
+        choice: c.choice,
+    };
+    assert_eq!(
+        got,
+        conversions::conversion_of(code),
+        "conversion of {code:#x}"
+    );
+    got
+}
+
+/// Length 0 at NULL is taken by every entry that takes a length.
 #[test]
 fn nothing_at_null() {
     use std::ptr::{null, null_mut};

@@ -1,6 +1,6 @@
 //! Noise on frames and replies: every single flip, and a burst of up to 15 neighbouring bits from every bit.
 
-use crate::{beside, pattern};
+use crate::{beside, commands, pattern};
 use second::commands::{Command, Kind, COMMANDS};
 use second::{chain, writer};
 
@@ -11,7 +11,7 @@ fn flip(bytes: &mut [u8], bit: usize) {
 fn frame_of(n: u32, command: &Command) -> Vec<u8> {
     let data = match command.kind {
         Kind::Write => pattern(6 * n as usize, command.first),
-        Kind::Read | Kind::Clear => Vec::new(),
+        Kind::Read | Kind::Clear | Kind::Convert => Vec::new(),
     };
     let mut frame = vec![0; 132];
     let written = writer::write(n, u32::from(command.code), &data, &mut frame);
@@ -35,7 +35,7 @@ fn carried(n: u32, command: &Command, frame: &[u8], reply: &[u8], state: &mut [u
 
 #[test]
 fn every_single_flip() {
-    for (n, command) in (1..=16).flat_map(|n| COMMANDS.map(|command| (n, command))) {
+    for (n, command) in (1..=16).flat_map(|n| commands().map(move |command| (n, command))) {
         let mut frame = frame_of(n, &command);
         let mut reply = reply_of(n, &frame);
         let mut state = pattern(108 * n as usize, 9);

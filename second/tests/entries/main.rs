@@ -3,13 +3,14 @@
 #![cfg(rig)]
 
 mod beside;
+mod conversions;
 mod damage;
 mod random;
 mod refusals;
 #[path = "../words/mod.rs"]
 mod words;
 
-use second::commands::{Kind, COMMANDS};
+use second::commands::{find, Command, Kind, COMMANDS};
 
 #[test]
 fn printed_check_words() {
@@ -26,17 +27,25 @@ pub fn pattern(length: usize, from: usize) -> Vec<u8> {
         .collect()
 }
 
+/// The 26 commands, and some conversions: ADCV, ADOW, CVST, AXOW, ADSTAT and ADCVAX.
+pub fn commands() -> impl Iterator<Item = Command> {
+    let conversions = [0x260, 0x3FE, 0x2C7, 0x555, 0x568, 0x5FF];
+    COMMANDS
+        .into_iter()
+        .chain(conversions.map(|code| find(code).expect("it is a conversion code")))
+}
+
 /// Every command on every chain: written, heard, answered and read back.
 #[test]
 fn every_command_on_every_chain() {
     for n in 1..=16u32 {
         let devices = n as usize;
         let mut state = pattern(108 * devices, 1);
-        for command in COMMANDS {
+        for command in commands() {
             let code = u32::from(command.code);
             let data = match command.kind {
                 Kind::Write => pattern(6 * devices, command.first),
-                Kind::Read | Kind::Clear => Vec::new(),
+                Kind::Read | Kind::Clear | Kind::Convert => Vec::new(),
             };
             let mut frame = vec![0; 140];
             let length = beside::write(n, code, &data, &mut frame).length;

@@ -1,7 +1,7 @@
 //! Random cases, long and short, right and damaged. RIG_SEED repeats a run, RIG_CASES says how many.
 
 use crate::beside;
-use second::commands::{Command, Kind, COMMANDS};
+use second::commands::{find, Command, Kind, COMMANDS};
 use second::tally::Tally;
 use second::writer;
 use std::env;
@@ -59,7 +59,28 @@ impl Dice {
     }
 
     fn command(&mut self) -> Command {
-        COMMANDS[self.below(COMMANDS.len())]
+        if self.one_in(6) {
+            self.conversion()
+        } else {
+            COMMANDS[self.below(COMMANDS.len())]
+        }
+    }
+
+    fn conversion(&mut self) -> Command {
+        loop {
+            if let Some(command) = find(0x200 + self.below(0x400) as u32) {
+                return command;
+            }
+        }
+    }
+
+    /// A number within a field's range, or now and then one near it, or any.
+    fn field(&mut self, most: usize) -> u32 {
+        match self.below(40) {
+            0 => self.roll() as u32,
+            1 => 1 << self.below(32),
+            _ => self.below(most + 2) as u32,
+        }
     }
 
     /// A flip, a burst of up to 15 bits, a byte at random, silence to the end, or none of these.
@@ -93,7 +114,7 @@ fn devices(n: u32) -> usize {
 
 fn random_write(dice: &mut Dice) {
     let (n, code) = (dice.size(), dice.code());
-    let writes = second::commands::find(code).is_some_and(|command| command.kind == Kind::Write);
+    let writes = find(code).is_some_and(|command| command.kind == Kind::Write);
     let needed = if writes { 6 * devices(n) } else { 0 };
     let data = dice.length(needed);
     let out = dice.length(4 + 8 * devices(n));
@@ -202,6 +223,14 @@ fn random_word_and_wake(dice: &mut Dice) {
     beside::wake(n, last, last.wrapping_add(gap));
 }
 
+fn random_conversion(dice: &mut Dice) {
+    let [command, mode, discharge, pull_up, choice] = [12, 3, 1, 1, 6].map(|most| dice.field(most));
+    let built = beside::conversion_code(command, mode, discharge, pull_up, choice);
+    beside::conversion_of(u32::from(built.code));
+    beside::conversion_of(dice.code());
+    beside::conversion_of(dice.roll() as u32);
+}
+
 fn number_of(name: &str, otherwise: u64) -> u64 {
     match env::var(name) {
         Ok(word) => word
@@ -221,12 +250,13 @@ fn random_cases() {
     println!("   random: {cases} cases, RIG_SEED={seed}");
     let mut dice = Dice(seed);
     for case in 1..=cases {
-        match dice.below(6) {
+        match dice.below(7) {
             0 => random_write(&mut dice),
             1 => random_link(&mut dice),
             2 => random_refused_chain(&mut dice),
             3 => random_read(&mut dice),
             4 => random_cells_and_tally(&mut dice),
+            5 => random_conversion(&mut dice),
             _ => random_word_and_wake(&mut dice),
         }
         if case % (cases / 6).max(1) == 0 {

@@ -1,7 +1,7 @@
 //! All refusals in their order: every N, every command, and lengths off by one both ways.
 
-use crate::{beside, pattern};
-use second::commands::{Command, Kind, COMMANDS};
+use crate::{beside, commands, pattern};
+use second::commands::{Command, Kind};
 use second::groups::command_group;
 use second::tally::Tally;
 use std::collections::BTreeSet;
@@ -11,12 +11,22 @@ fn sizes() -> impl Iterator<Item = u32> {
     (0..=17).chain([255, 256, 257, 65_535, 65_536, 65_537, u32::MAX])
 }
 
-/// Codes that no row has: near ones, with a top bit set, and too wide.
-const UNKNOWN: [u32; 8] = [0x000, 0x003, 0x005, 0x713, 0x7FF, 0x801, 0x1_0001, u32::MAX];
+/// Codes that no row has and no conversion: near ones, with a top bit set, and too wide.
+const UNKNOWN: [u32; 10] = [
+    0x000,
+    0x003,
+    0x005,
+    0x267,
+    0x713,
+    0x7FF,
+    0x801,
+    0x1_0001,
+    0x1_0260,
+    u32::MAX,
+];
 
 fn codes() -> impl Iterator<Item = u32> {
-    COMMANDS
-        .iter()
+    commands()
         .map(|command| u32::from(command.code))
         .chain(UNKNOWN)
 }
@@ -57,14 +67,14 @@ fn writer() {
 fn length_of(command: &Command, devices: usize) -> usize {
     match command.kind {
         Kind::Write | Kind::Read => 4 + 8 * devices,
-        Kind::Clear => 4,
+        Kind::Clear | Kind::Convert => 4,
     }
 }
 
 #[test]
 fn chain() {
     let mut seen = BTreeSet::new();
-    for (n, command) in sizes().flat_map(|n| COMMANDS.map(|command| (n, command))) {
+    for (n, command) in sizes().flat_map(|n| commands().map(move |command| (n, command))) {
         let length = length_of(&command, devices(n));
         let mut frame = pattern(length + 1, 6);
         for (top, closing) in [(0, 0), (0, 1), (0xF800, 0)] {
@@ -86,7 +96,7 @@ fn chain() {
     beside::ran("refusals of the chain");
 }
 
-/// Every two command bytes with a right check word: the 26 are known, and no other.
+/// Every two command bytes with a right check word: the 26 and the 368 conversion codes are known, and no other.
 #[test]
 fn every_command_group() {
     let mut known = 0;
@@ -97,7 +107,7 @@ fn every_command_group() {
         let written = beside::write(1, u32::from(code), &[], &mut [0; 12]).number;
         assert_eq!(written == 2, number == 2, "{code:#x}");
     }
-    assert_eq!(known, 26);
+    assert_eq!(known, 26 + 368);
     beside::ran("every command group");
 }
 

@@ -6,7 +6,7 @@ use borrow.Author.Needs.{needs}
 use borrow.Author.Tests.{not-true, not-false}
 use lib.ListN.{take}
 use Rattle.pec.specs.Group.{right}
-use Rattle.frames.proofs.Lookup.{kind-below, group-below}
+use Rattle.frames.proofs.Lookup.{group-below}
 use Rattle.frames.proofs.Sizes.{at-most}
 use Rattle.chain.specs.Chain.{codeOf, fills}
 use Rattle.chain.proofs.ClearLaws.{clear-room}
@@ -94,7 +94,6 @@ obey-requires c κs =
       checked .before .before .before .before .table .ensures,
       at-most _ (start .pre .0),
       omega arith,
-      omega (arith, f .0, kind-below code),
       omega (arith, f .1, group-below code),
       (λ e. rw (f .1) (clear-room code (sym (f .0) ∙ e))),
       long .if4 .left ∙ long .before .frame-length .ensures,

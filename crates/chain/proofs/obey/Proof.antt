@@ -4,7 +4,7 @@ use native.Mathlib.Omega.{arith}
 use borrow.Author.Needs.{needs}
 use Rattle.frames.proofs.KindCases.{length-long}
 use Rattle.chain.proofs.ClearLaws.{clears-some}
-use Rattle.chain.proofs.Obeyed.{obeyed-write, obeyed-read, obeyed-clear}
+use Rattle.chain.proofs.Obeyed.{obeyed-write, obeyed-read, obeyed-clear, obeyed-conversion}
 use Rattle.chain.proofs.obey.Statement.{statement}
 use Rattle.chain.proofs.obey.Tie as tie
 
@@ -12,7 +12,7 @@ store-groups-requires : tie.Need-store-groups-requires
 store-groups-requires c κs =
     let start = c .before .before .before .before .before in
     let a = start .args in
-    (start .pre .0, omega arith, omega arith, start .pre .6 ∙ length-long (a .n) (a .kind) (λ e. omega arith), start .pre .7)
+    (start .pre .0, omega arith, omega arith, start .pre .5 ∙ length-long (a .n) (a .kind) (omega arith), start .pre .6)
 
 returns : tie.Need-returns
 returns c =
@@ -22,10 +22,10 @@ returns c =
 part-put-answers-end : tie.Need-part-put-answers-end
 part-put-answers-end c =
     let start = c .before .before .before .before .before .before in
-    omega (arith, start .pre .6, start .pre .8, length-long (start .args .n) (start .args .kind) (λ e. omega arith))
+    omega (arith, start .pre .5, start .pre .7, length-long (start .args .n) (start .args .kind) (omega arith))
 
 put-answers-requires : tie.Need-put-answers-requires
-put-answers-requires c κs = (c .before .before .before .before .before .before .before .pre .0, omega arith, omega arith, c .before .before .before .before .before .before .before .pre .7, omega arith)
+put-answers-requires c κs = (c .before .before .before .before .before .before .before .pre .0, omega arith, omega arith, c .before .before .before .before .before .before .before .pre .6, omega arith)
 
 returns-2 : tie.Need-returns-2
 returns-2 c =
@@ -34,15 +34,20 @@ returns-2 c =
 
 clear-groups-requires : tie.Need-clear-groups-requires
 clear-groups-requires c κs =
-    let start = c .before .before .before .before .before .before .before in
+    let start = c .before .before .before .before .before .before .before .before in
     let many = c .before .clear-count .ensures in
-    (omega arith, omega (arith, clears-some (start .args .group)), omega (arith, start .pre .5 (omega arith)), start .pre .7)
+    (omega arith, omega (arith, clears-some (start .args .group)), omega (arith, start .pre .4 (omega arith)), start .pre .6)
 
 returns-3 : tie.Need-returns-3
 returns-3 c =
-    let a = c .before .before .before .before .before .before .before .before .before .before .args in
-    let cleared = c .before .before .clear-groups in
-    obeyed-clear (a .n) (a .kind) (a .group) (a .frame .now) (a .state .now) (a .reply .now) _ _ _ (omega arith) (cleared .ensures .0) (c .before .before .before .before .clear-count .ensures) (cleared .ensures .1)
+    let a = c .before .before .before .before .before .before .before .before .before .before .before .before .args in
+    let cleared = c .before .before .before .clear-groups in
+    obeyed-clear (a .n) (a .kind) (a .group) (a .frame .now) (a .state .now) (a .reply .now) _ _ _ (omega arith) (c .everyone .ensures) (c .before .before .before .before .before .clear-count .ensures) (cleared .ensures)
+
+returns-4 : tie.Need-returns-4
+returns-4 c =
+    let a = c .before .before .before .before .before .before .before .args in
+    obeyed-conversion (a .n) (a .kind) (a .group) (a .frame .now) (a .state .now) (a .reply .now) _ (omega arith) (c .everyone2 .ensures)
 
 pub obey-spec : {M : Type 1} → statement M
 obey-spec =
@@ -62,5 +67,8 @@ obey-spec =
     returns-2
     (λ c κs. search needs)
     clear-groups-requires
+    (λ c κs. search needs)
     (λ c. search needs)
-    returns-3)
+    returns-3
+    (λ c κs. search needs)
+    returns-4)

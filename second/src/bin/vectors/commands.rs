@@ -46,6 +46,7 @@ fn row(command: &Command) -> String {
         Kind::Write => ("write", command.first.to_string()),
         Kind::Read => ("read", command.first.to_string()),
         Kind::Clear => ("clear", format!("{}-{}", command.first, command.last)),
+        Kind::Convert => ("convert", "-".to_string()),
     };
     let wire = hex(&command_group(command.code));
     let Command { code, name, .. } = command;

@@ -2,9 +2,10 @@
 use mathlib.Core.Path.{_≡_, refl, ap, sym, _∙_}
 use Prim.Native.Nat.{_≤_, _-_}
 use native.Mathlib.Omega.{arith}
+use borrow.Author.Needs.{needs}
 use lib.ListN.{drop, List·getD-map}
 use Rattle.frames.specs.Commands.{Row, row, rows, found, kindOf, groupOf}
-use Rattle.frames.proofs.Lookup.{codes, hit, miss, none-left}
+use Rattle.frames.proofs.Lookup.{codes, hit, miss, none-left, asked, unknown}
 use Rattle.frames.proofs.commands.find.Statement.{statement}
 use Rattle.frames.proofs.commands.find.Tie as tie
 
@@ -36,8 +37,17 @@ loop-again c =
 returns-2 : tie.Need-returns-2 Inv-loop μ-loop
 unfolding kindOf groupOf rows
 returns-2 c =
-    let l = c .before .loop in
-    let e = l .inv .2 ∙ none-left (c .before .before .args .code) (l .i) (omega arith) in
+    let l = c .before .before .before .before .loop in
+    let code = c .before .before .before .before .before .args .code in
+    let e = l .inv .2 ∙ none-left code (l .i) (omega arith) ∙ asked code _ (c .before .before .conversion-of .ensures .number) (c .if2 .taken) in
+    (sym (ap (λ (r : Row). r .kind) e), sym (ap (λ (r : Row). r .group) e))
+
+returns-3 : tie.Need-returns-3 Inv-loop μ-loop
+unfolding kindOf groupOf rows
+returns-3 c =
+    let l = c .before .before .before .before .loop in
+    let code = c .before .before .before .before .before .args .code in
+    let e = l .inv .2 ∙ none-left code (l .i) (omega arith) ∙ unknown code _ (c .before .before .conversion-of .ensures .number) (c .if2 .left) in
     (sym (ap (λ (r : Row). r .kind) e), sym (ap (λ (r : Row). r .group) e))
 
 pub find-spec : {M : Type 1} → statement M
@@ -55,4 +65,6 @@ find-spec =
     (λ c. omega arith)
     (λ c. omega arith)
     loop-again
-    returns-2)
+    (λ c κs. search needs)
+    returns-2
+    returns-3)

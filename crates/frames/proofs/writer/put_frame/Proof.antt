@@ -7,7 +7,7 @@ use borrow.Author.Needs.{needs}
 use lib.ListN.{length, take, drop}
 use Rattle.lent.proofs.Over.{filled}
 use Rattle.pec.specs.Group.{twoBytes}
-use Rattle.frames.proofs.Lookup.{kind-below, known-below}
+use Rattle.frames.proofs.Lookup.{known-below}
 use Rattle.frames.proofs.KindCases.{needs-data, length-long, length-least, body-write, body-read}
 use Rattle.frames.proofs.FrameLaws.{frame-with, frame-alone}
 use Rattle.frames.proofs.writer.put_frame.Statement.{statement}
@@ -22,7 +22,7 @@ put-command-requires c κs =
     (c .before .before .table .ensures, omega (arith, known-below (a .code) (λ e. omega arith)), omega arith)
 
 part-put-groups-end : tie.Need-part-put-groups-end
-part-put-groups-end c = let a = c .before .before .before .before .before .before .before .before .before .before .args in omega (arith, length-long (a .n) (a .kind) (λ h. omega arith))
+part-put-groups-end c = let a = c .before .before .before .before .before .before .before .before .before .before .args in omega (arith, length-long (a .n) (a .kind) (omega arith))
 
 put-groups-requires : tie.Need-put-groups-requires
 put-groups-requires c κs =
@@ -30,7 +30,7 @@ put-groups-requires c κs =
     (c .before .before .before .before .before .before .before .before .table .ensures, omega arith, omega (arith, needs-data (a .n) (a .kind) (c .before .before .if1 .taken)), omega arith)
 
 part-fill-end : tie.Need-part-fill-end
-part-fill-end c = let a = c .before .before .before .before .before .before .before .before .before .before .args in omega (arith, length-long (a .n) (a .kind) (λ h. omega arith))
+part-fill-end c = let a = c .before .before .before .before .before .before .before .before .before .before .args in omega (arith, length-long (a .n) (a .kind) (omega arith))
 
 returns : tie.Need-returns
 unfolding twoBytes
@@ -40,7 +40,7 @@ returns c =
     let command = write .before .before .before in
     let start = command .before .before .before .before .before .before in
     let a = start .args in
-    let room = length-long (a .n) (a .kind) (λ h. omega arith) in
+    let room = length-long (a .n) (a .kind) (omega arith) in
     let six = needs-data (a .n) (a .kind) (write .if1 .taken) in
     frame-with (a .n) (a .code) (a .kind) (a .bytes .now) (a .out .now) (command .put-command .last .1 .1 .0) (start .pre .2) (command .put-command .ensures)
     (put .last .1 .1 .1 .0)
@@ -54,7 +54,7 @@ returns-2 c =
     let put = c .before .before .before .before .before .before .before .before .put-command in
     let start = c .before .before .before .before .before .before .before .before .before .before .before .before .before .before in
     let a = start .args in
-    let room = length-long (a .n) (a .kind) (λ h. omega arith) in
+    let room = length-long (a .n) (a .kind) (omega arith) in
     let command = put .last .1 .1 .0 in
     let clock = c .before .before .fill .last .0 in
     frame-with (a .n) (a .code) (a .kind) (a .bytes .now) (a .out .now) command (start .pre .2) (put .ensures) clock
@@ -68,7 +68,6 @@ unfolding twoBytes
 returns-3 c =
     let start = c .before .before .before .before .before .before .before .before .before .before in
     let a = start .args in
-    let kind = kind-below (a .code) in
     frame-alone (a .n) (a .code) (a .kind) (a .bytes .now) (a .out .now) (c .before .before .before .before .put-command .last .1 .1 .0) (start .pre .2) (c .before .before .before .before .put-command .ensures)
     (omega arith)
 
