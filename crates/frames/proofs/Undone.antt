@@ -31,13 +31,7 @@ all-undone : below 13 (λ c. below 4 (λ m. below 2 (λ d. below 2 (λ p. below 
 unfolding undone same patternAt patterns within weighed codeBy choiceIn fieldsBy fits seek commandOf pick
 all-undone = refl
 
-record Same (f g : Fields) : Type 0 where
-  mode : f .mode ≡ g .mode
-  discharge : f .discharge ≡ g .discharge
-  pullUp : f .«pull_up» ≡ g .«pull_up»
-  choice : f .choice ≡ g .choice
-
-same-true : (f g : Fields) → same f g ≡ true → Same f g
+same-true : (f g : Fields) → same f g ≡ true → f ≡ g
 unfolding same
 same-true f g t =
     let m = eqb (f .mode) (g .mode) in
@@ -46,12 +40,11 @@ same-true f g t =
     let c = eqb (f .choice) (g .choice) in
     let t1 = and-right m (d && (p && c)) t in
     let t2 = and-right d (p && c) t1 in
-    record {
-      mode = eqb-true (f .mode) (g .mode) (and-left m (d && (p && c)) t);
-      discharge = eqb-true (f .discharge) (g .discharge) (and-left d (p && c) t1);
-      pullUp = eqb-true (f .«pull_up») (g .«pull_up») (and-left p c t2);
-      choice = eqb-true (f .choice) (g .choice) (and-right p c t2);
-    }
+    fields-ext f g
+    (eqb-true (f .mode) (g .mode) (and-left m (d && (p && c)) t))
+    (eqb-true (f .discharge) (g .discharge) (and-left d (p && c) t1))
+    (eqb-true (f .«pull_up») (g .«pull_up») (and-left p c t2))
+    (eqb-true (f .choice) (g .choice) (and-right p c t2))
 
 -- the code of a command with fields in their ranges is that command's, and has those fields
 module _ (command : ℕ) (f : Fields) (h : command < 13) (w : within (patternAt command) f ≡ true) where
@@ -79,7 +72,7 @@ module _ (command : ℕ) (f : Fields) (h : command < 13) (w : within (patternAt 
   its-command : commandOf made ≡ command
   its-command = eqb-true (commandOf made) command (and-left (eqb (commandOf made) command) (same (fieldsBy (patternAt command) made) f) both)
 
-  its-fields : Same (fieldsBy (patternAt command) made) f
+  its-fields : fieldsBy (patternAt command) made ≡ f
   its-fields = same-true (fieldsBy (patternAt command) made) f (and-right (eqb (commandOf made) command) (same (fieldsBy (patternAt command) made) f) both)
 
   conversion-made : isConversion made ≡ true
@@ -123,15 +116,15 @@ built-apart command mode discharge pullUp choice r B z s T =
     let e = its-code command mode discharge pullUp choice r B z in
     let yes : isConversion (r .code) ≡ true = ap isConversion e ∙ conversion-made command f h w in
     let its : commandOf (r .code) ≡ command = ap commandOf e ∙ its-command command f h w in
-    let parts : fieldsOf (r .code) ≡ fieldsBy (patternAt command) (codeBy (patternAt command) f) = rw (yes, its, e) in
-    let g = its-fields command f h w in
+    let read : fieldsOf (r .code) ≡ fieldsBy (patternAt command) (codeBy (patternAt command) f) = rw (yes, its, e) in
+    let parts : fieldsOf (r .code) ≡ f = read ∙ its-fields command f h w in
     conversion-ext s (conversion 0 command mode discharge pullUp choice)
     (T .number ∙ rw yes)
     (T .command ∙ rw (yes, its))
-    (T .mode ∙ ap (λ (x : Fields). x .mode) parts ∙ g .mode)
-    (T .discharge ∙ ap (λ (x : Fields). x .discharge) parts ∙ g .discharge)
-    (T .pullUp ∙ ap (λ (x : Fields). x .«pull_up») parts ∙ g .pullUp)
-    (T .choice ∙ ap (λ (x : Fields). x .choice) parts ∙ g .choice)
+    (T .mode ∙ ap (λ (x : Fields). x .mode) parts)
+    (T .discharge ∙ ap (λ (x : Fields). x .discharge) parts)
+    (T .pullUp ∙ ap (λ (x : Fields). x .«pull_up») parts)
+    (T .choice ∙ ap (λ (x : Fields). x .choice) parts)
 
 -- TAKEN APART AND BUILT: the code again
 pub apart-built : (code : ℕ) (s : Conversion) → TakesApart code s → s .number ≡ 0
@@ -165,7 +158,7 @@ one-reading c m d p ch c′ m′ d′ p′ ch′ r r′ B B′ z z′ e =
     ∙ ap apart e
     ∙ built-apart c′ m′ d′ p′ ch′ r′ B′ z′ (apart (r′ .code)) (apart-apart (r′ .code))
 
--- NO CONVERSION CODE IS ONE OF THE 26, so the lookup gives it kind 4; and it gives that to no other code
+-- NO CONVERSION CODE IS ONE OF THE 26, so the lookup gives it kind 4; and it gives that to no other code (Lookup `only-conversions`)
 pub none-listed : (i : ℕ) → i < 26 → isConversion (rowAt i .code) ≡ false
 unfolding rows patternAt patterns within weighed codeBy choiceIn fieldsBy fits seek commandOf isConversion pick
 none-listed i h = not-true _ (each-below (λ (j : ℕ). not (isConversion (rowAt j .code))) 26 refl i h)
