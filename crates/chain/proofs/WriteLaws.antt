@@ -13,7 +13,7 @@ use lib.Seq.{length-take-le}
 use borrow.Rule.Slice.PartMut.{putMid}
 use Rattle.lent.specs.Bytes.{Bytes}
 use Rattle.lent.specs.Refusal.{pick}
-use Rattle.lent.specs.Word.{bitsWhere}
+use Rattle.lent.proofs.BitsWhere.{bit-more}
 use Rattle.lent.proofs.Bytes.{bytes-take, bytes-part, bytes-pick}
 use Rattle.lent.proofs.Splice.{put-pick}
 use Rattle.pec.specs.Group.{right}
@@ -43,8 +43,8 @@ turn n k g at from frame state now after h lf ea ef en e =
 
 pub turn-word : (n k from word bit r : ℕ) (frame : List ℕ) → from ≡ 4 + 8 * (n - 1 - k) → bit ≡ 2 ^ k → word ≡ storedBits n k frame
     → r ≡ pick (right (take (from + 8 - from) (drop from frame))) bit 0 → word + r ≡ storedBits n (k + 1) frame
-unfolding wire storedBits bitsWhere
-turn-word n k from word bit r frame ef eb ew er = let size : from + 8 - from ≡ 8 = omega arith in rw (add-one, ew, er, size, ef, eb)
+unfolding wire storedBits
+turn-word n k from word bit r frame ef eb ew er = let size : from + 8 - from ≡ 8 = omega arith in bit-more (λ (j : ℕ). right (wire n j frame)) k word ew r (er ∙ rw (size, ef, eb))
 
 pub pow-step : (k : ℕ) → 2 ^ (k + 1) ≡ 2 ^ k * 2
 pow-step k = rw (add-one, pow-suc)

@@ -3,12 +3,13 @@ use mathlib.Core.Path.{_≡_, refl, sym, ap, ap₂, _∙_, subst}
 use mathlib.Core.Bool.{Bool, true, false}
 use mathlib.Core.Logic.{⊎-elim}
 use Prim.Native.Nat.{ℕ, zero, suc, _+_, _-_, _*_, _/_, _%_, _^_, _≤_, _<_}
-use native.Mathlib.Nat.{pow-suc, add-mul-mod-self-right, add-zero, le-of-suc-le-suc, eq-or-lt-of-le}
+use native.Mathlib.Nat.{pow-suc, add-mul-mod-self-right, add-zero, le-of-suc-le-suc, eq-or-lt-of-le, lt-of-lt-of-le}
+use native.Mathlib.Numerals.{add-one}
 use native.Mathlib.Omega.{arith}
-use lib.Pow.{pow-pos, pow-add, high, field, shr-shr}
+use lib.Pow.{pow-pos, pow-mono, pow-add, high, field, shr-shr}
 use Rattle.lent.specs.Refusal.{pick}
 use Rattle.lent.specs.Word.{bitsWhere}
-use Rattle.lent.proofs.Pick.{pick-true}
+use Rattle.lent.proofs.Pick.{pick-true, pick-false}
 
 pick-most : (b : Bool) (x : ℕ) → pick b x 0 ≤ x
 unfolding pick
@@ -64,6 +65,21 @@ module _ (test : ℕ → Bool) where
   bits-all zero h = refl
   bits-all (suc n) h =
       ap₂ (λ (x y : ℕ). x + y) (bits-all n (λ k l. h k (omega arith))) (pick-true (test n) (2 ^ n) 0 (h n (omega arith))) ∙ omega (arith, pow-suc 2 n, pow-pos n)
+
+  -- ONE TEST MORE, as a loop over the tests takes it: what it adds to the word, and that the word still fits
+  module _ (k word : ℕ) (v : word ≡ bitsWhere test k) where
+    pub bit-more : (r : ℕ) → r ≡ pick (test k) (2 ^ k) 0 → word + r ≡ bitsWhere test (k + 1)
+    unfolding bitsWhere
+    bit-more r e = rw (add-one, v, e)
+
+    pub bit-set : (bit : ℕ) → bit ≡ 2 ^ k → test k ≡ true → word + bit ≡ bitsWhere test (k + 1)
+    bit-set bit e t = bit-more bit (e ∙ sym (pick-true (test k) (2 ^ k) 0 t))
+
+    pub bit-clear : test k ≡ false → word ≡ bitsWhere test (k + 1)
+    bit-clear f = sym (add-zero word) ∙ bit-more 0 (sym (pick-false (test k) (2 ^ k) 0 f))
+
+    pub bit-fits : (n bit : ℕ) → k < n → bit ≡ 2 ^ k → test k ≡ true → word + bit < 2 ^ n
+    bit-fits n bit h e t = rw (bit-set bit e t) (lt-of-lt-of-le (bits-below (k + 1)) (pow-mono {i = k + 1} {j = n} (omega arith)))
 
 -- two words of n bits that agree at each bit are equal
 pub bits-ext : (n x y : ℕ) → x < 2 ^ n → y < 2 ^ n → ((k : ℕ) → k < n → x / 2 ^ k % 2 ≡ y / 2 ^ k % 2) → x ≡ y
