@@ -10,7 +10,7 @@
 .PHONY: run test test-arm test-powerpc lib dist install bench fuzz fmt need second header against printed sanitized manual readme ctest example entries fuzz_some dist_alone FORCE
 
 PREFIX ?= /usr/local
-VERSION := 1.0.0
+VERSION := 2.0.0
 CHECKED := -Wall -Wextra -Wpedantic -Werror -Iinclude
 ARCHIVE := build/librig.a
 SECOND := build/bench/release/libsecond_c.a

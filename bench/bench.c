@@ -186,7 +186,15 @@ static void make_conversions(void)
     }
 }
 
-/* Bytes at random; of the marks about one in eight is not 0. */
+/* Of the cells that turn_cells reads about one in eight becomes 0xFFFF, which is not measured: bytes at random hardly ever hold it. */
+static void clear_some_cells(void)
+{
+    for (size_t i = 0; i < 36 * SETS; i += 2)
+        if (random_byte() % 8 == 0)
+            in.bytes[i] = in.bytes[i + 1] = 0xFF;
+}
+
+/* Bytes at random, among them cells of 0xFFFF; of the marks about one in eight is not 0. */
 static void make_inputs(void)
 {
     for (size_t i = 0; i < sizeof in.bytes; i++)
@@ -195,6 +203,7 @@ static void make_inputs(void)
         for (size_t k = 0; k < 16; k++)
             in.marks[i][k] = (uint8_t)(random_byte() % 8 ? 0 : 1 + random_byte() % 2);
     make_conversions();
+    clear_some_cells();
 }
 
 /* Frames for n devices, a state of random bytes, and the replies to the reads of that state. */
@@ -216,7 +225,8 @@ static uint32_t devices_of(const struct row *row)
 
 static int same_readings(const struct rig_readings *a, const struct rig_readings *b)
 {
-    return a->number == b->number && a->valid == b->valid && !memcmp(a->counts, b->counts, sizeof a->counts);
+    return a->number == b->number && a->valid == b->valid && a->unmeasured == b->unmeasured &&
+           !memcmp(a->counts, b->counts, sizeof a->counts);
 }
 
 static int same_tally(const struct rig_tally *a, const struct rig_tally *b)

@@ -279,17 +279,23 @@ static int any_above(const uint8_t *marks, size_t count)
 
 struct rig_readings plain_cells(const uint8_t *groups, size_t groups_len, const uint8_t *marks, size_t marks_len)
 {
-    struct rig_readings r = {0, {0}, 0};
+    struct rig_readings r = {0, {0}, 0, 0};
 
     if (groups_len != 36 || marks_len != 6 || any_above(marks, marks_len)) {
         r.number = 3;
         return r;
     }
-    for (size_t c = 0; c < 18; c++)
-        if (marks[c / 3] == 0) {
-            r.counts[c] = (uint16_t)(groups[2 * c] | groups[2 * c + 1] << 8);
+    for (size_t c = 0; c < 18; c++) {
+        uint16_t count = (uint16_t)(groups[2 * c] | groups[2 * c + 1] << 8);
+        if (marks[c / 3] != 0)
+            continue;
+        if (count == 0xffff) {
+            r.unmeasured |= (uint32_t)1 << c;
+        } else {
+            r.counts[c] = count;
             r.valid |= (uint32_t)1 << c;
         }
+    }
     return r;
 }
 

@@ -160,6 +160,7 @@ struct rig_readings {
     uint8_t number;
     uint16_t counts[18]; /* cell c at c - 1, in steps of 100 microvolts; 0 where it is not valid */
     uint32_t valid;      /* bit c - 1: cell c is valid */
+    uint32_t unmeasured; /* bit c - 1: cell c was read, and held no measurement */
 };
 
 struct rig_tally {
@@ -265,19 +266,24 @@ struct rig_heard rig_chain(uint32_t n, const uint8_t *frame, size_t frame_len, u
 uint8_t rig_read(uint32_t n, uint32_t code, const uint8_t *reply, size_t reply_len, uint8_t *data, size_t data_len, uint8_t *marks, size_t marks_len);
 
 /* ---- rig_cells: the cells of one device -------------------------------------------------------------------------------
- * Eighteen counts of 100 microvolts from the six groups CVA to CVF of one device, three cells a group, low byte first. A
- * cell is valid where its group's mark is RIG_MARK_READ. All counts 0 to 65,535 are readings: a cleared group reads as three
- * valid cells of 65,535.
+ * Eighteen counts of 100 microvolts from the six groups CVA to CVF of one device, three cells a group, low byte first.
  *   groups, groups_len   36 bytes: CVA, CVB, CVC, CVD, CVE, CVF
  *   marks, marks_len     6 marks, one for each of them
  * Number:
- *   RIG_WRONG_LENGTH   groups are not 36 bytes, marks not 6, or a mark is above 2: all counts 0, no valid bit
- *   RIG_DONE           counts[c - 1] and bit c - 1 of valid for cell c; a cell that is not valid has count 0, its bit clear
+ *   RIG_WRONG_LENGTH   groups are not 36 bytes, marks not 6, or a mark is above 2: all counts 0, no bit of valid or unmeasured
+ *   RIG_DONE           counts[c - 1], and bit c - 1 of valid and of unmeasured, for cell c, which is one of three:
+ *                      valid: its group's mark is RIG_MARK_READ and it holds its count, 0 to 65,534;
+ *                      unmeasured: the mark is the same and it holds 65,535; count 0;
+ *                      neither: its group was not read; count 0
  * groups and marks are only read.
+ * A clear, and on a part power-up, leaves 65,535 until a measurement is stored. rig_chain measures nothing: with it that is
+ * until the caller writes the state.
+ * 65,280 to 65,295 (0xFF0X) are given as valid. A part stores them to indicate a fault, which the controller has to look for.
  *
- *     uint8_t groups[36] = {0}, group_marks[6] = {0};  // of one device: CVA to CVF, each from a rig_read of its own
+ *     uint8_t groups[36] = {0xFF, 0xFF}, group_marks[6] = {0};  // of one device: CVA to CVF, each from a rig_read of its own
  *     struct rig_readings cells = rig_cells(groups, 36, group_marks, 6);
  *     if ((cells.valid >> 17) & 1) volts = cells.counts[17] * 0.0001;  // cell 18
+ *     if (cells.unmeasured & 1) measure_again();  // cell 1 holds no measurement
  */
 struct rig_readings rig_cells(const uint8_t *groups, size_t groups_len, const uint8_t *marks, size_t marks_len);
 
@@ -368,10 +374,11 @@ RIG_ASSERT(offsetof(struct rig_heard, word) == 2, "rig.h: rig_heard.word lies el
 RIG_ASSERT(sizeof(struct rig_wait) == 8, "rig.h: struct rig_wait has another size");
 RIG_ASSERT(offsetof(struct rig_wait, number) == 0, "rig.h: rig_wait.number lies elsewhere");
 RIG_ASSERT(offsetof(struct rig_wait, wait) == 4, "rig.h: rig_wait.wait lies elsewhere");
-RIG_ASSERT(sizeof(struct rig_readings) == 44, "rig.h: struct rig_readings has another size");
+RIG_ASSERT(sizeof(struct rig_readings) == 48, "rig.h: struct rig_readings has another size");
 RIG_ASSERT(offsetof(struct rig_readings, number) == 0, "rig.h: rig_readings.number lies elsewhere");
 RIG_ASSERT(offsetof(struct rig_readings, counts) == 2, "rig.h: rig_readings.counts lies elsewhere");
 RIG_ASSERT(offsetof(struct rig_readings, valid) == 40, "rig.h: rig_readings.valid lies elsewhere");
+RIG_ASSERT(offsetof(struct rig_readings, unmeasured) == 44, "rig.h: rig_readings.unmeasured lies elsewhere");
 RIG_ASSERT(sizeof(struct rig_tally) == 16, "rig.h: struct rig_tally has another size");
 RIG_ASSERT(offsetof(struct rig_tally, replies) == 0, "rig.h: rig_tally.replies lies elsewhere");
 RIG_ASSERT(offsetof(struct rig_tally, read) == 4, "rig.h: rig_tally.read lies elsewhere");

@@ -3,18 +3,20 @@
 
 #include <stdio.h>
 
-static unsigned pulses, slept;
+static unsigned pulses, slept, measured;
 
 static void send_wake_pulse(void) { pulses++; }
 
 static void sleep_us(uint32_t wait) { slept += wait; }
 
+static void measure_again(void) { measured++; }
+
 int main(void) {
     double volts = 1;
 #include "manual.inc"
     int good = word == 0x3D6E && out.number == RIG_DONE && heard.number == RIG_DONE && number == RIG_DONE && added == RIG_DONE &&
-               tally.read == 16 && volts == 0 && pulses == 1 && slept == 160 && start.code == 0x360 && started.length == 4 &&
-               taken.command == RIG_CONVERT_ADCV && taken.mode == 2;
+               tally.read == 16 && volts == 0 && measured == 1 && pulses == 1 && slept == 160 && start.code == 0x360 &&
+               started.length == 4 && taken.command == RIG_CONVERT_ADCV && taken.mode == 2;
     printf("manual: the examples of rig.h %s\n", good ? "do what they say" : "do not do what they say");
     return good ? 0 : 1;
 }

@@ -174,6 +174,26 @@ uint16_t plain_obey(uint32_t n, const struct command *command, const uint8_t *fr
     return word;
 }
 
+struct rig_readings plain_readings(const uint8_t *groups, size_t groups_len, const uint8_t *marks, size_t marks_len) {
+    struct rig_readings none = {RIG_WRONG_LENGTH, {0}, 0, 0}, all = {RIG_DONE, {0}, 0, 0};
+    if (groups_len != 36 || marks_len != 6) {
+        return none;
+    }
+    for (unsigned c = 0; c < RIG_CELLS; c++) {
+        uint16_t count = (uint16_t)(groups[2 * c] + 256 * groups[2 * c + 1]);
+        if (marks[c / 3] > RIG_MARK_SILENT) {
+            return none;
+        }
+        if (marks[c / 3] == RIG_MARK_READ && count == 65535) {
+            all.unmeasured += (uint32_t)1 << c;
+        } else if (marks[c / 3] == RIG_MARK_READ) {
+            all.valid += (uint32_t)1 << c;
+            all.counts[c] = count;
+        }
+    }
+    return all;
+}
+
 uint8_t plain_writer_number(uint32_t n, const struct command *command, size_t data, size_t out) {
     if (n < 1 || n > 16) {
         return RIG_BAD_SIZE;

@@ -49,6 +49,9 @@ uint8_t plain_mark(const uint8_t *group);
 /* What a good frame leaves in the state, and in a reply of silence; the chain's word. */
 uint16_t plain_obey(uint32_t n, const struct command *command, const uint8_t *frame, uint8_t *state, uint8_t *reply);
 
+/* The cells of one device. */
+struct rig_readings plain_readings(const uint8_t *groups, size_t groups_len, const uint8_t *marks, size_t marks_len);
+
 /* A conversion code from its fields, and back. */
 struct rig_code plain_code(uint32_t command, uint32_t mode, uint32_t discharge, uint32_t pull_up, uint32_t choice);
 struct rig_conversion plain_conversion(uint32_t code);

@@ -304,18 +304,65 @@ static void test_read(void) {
 /* ---- cells ---- */
 
 static void one_cells(const uint8_t *groups, size_t groups_len, const uint8_t *marks, size_t marks_len) {
-    struct rig_readings got = rig_cells(groups, groups_len, marks, marks_len);
-    int good = groups_len == 36 && marks_len == 6;
-    for (size_t i = 0; good && i < 6; i++) {
-        good = marks[i] <= 2;
-    }
-    EXPECT(got.number == (good ? RIG_DONE : RIG_WRONG_LENGTH), "number of the cells", groups_len, marks_len);
+    struct rig_readings got = rig_cells(groups, groups_len, marks, marks_len), then = plain_readings(groups, groups_len, marks, marks_len);
+    EXPECT(got.number == then.number, "number of the cells", groups_len, marks_len);
+    EXPECT(got.valid == then.valid, "valid cells", got.valid, then.valid);
+    EXPECT(got.unmeasured == then.unmeasured, "unmeasured cells", got.unmeasured, then.unmeasured);
+    EXPECT((got.valid & got.unmeasured) == 0, "no cell is both", got.valid, got.unmeasured);
+    EXPECT((got.valid | got.unmeasured) >> RIG_CELLS == 0, "no bit above 17", got.valid, got.unmeasured);
     for (size_t c = 0; c < RIG_CELLS; c++) {
-        int valid = good && marks[c / 3] == RIG_MARK_READ;
-        EXPECT(((got.valid >> c) & 1) == (unsigned)valid, "valid bit", c, got.valid);
-        EXPECT(got.counts[c] == (valid ? groups[2 * c] + 256 * groups[2 * c + 1] : 0), "count", c, got.counts[c]);
+        EXPECT(got.counts[c] == then.counts[c], "count", c, got.counts[c]);
     }
-    EXPECT(got.valid >> RIG_CELLS == 0, "no bit above 17", got.valid, 0);
+}
+
+/* Under every row of marks 0 to 3. */
+static void cells_by_marks(const uint8_t *groups) {
+    for (unsigned sorts = 0; sorts < 4096; sorts++) {
+        uint8_t marks[6];
+        for (size_t i = 0; i < 6; i++) {
+            marks[i] = (uint8_t)((sorts >> 2 * i) & 3);
+        }
+        one_cells(groups, 36, marks, 6);
+    }
+}
+
+/* One cell with two bytes of its own, the others with one byte twice. In groups that were read 65,535 is not measured, and all else is
+ * valid; then under every row of marks. */
+static void one_cleared(unsigned cell, const uint8_t bytes[2], uint8_t others) {
+    static const uint8_t all_read[6] = {0};
+    const uint32_t bit = (uint32_t)1 << cell, rest = 0x3FFFF ^ bit;
+    const uint16_t count = (uint16_t)(bytes[0] + 256 * bytes[1]);
+    uint8_t groups[36];
+    memset(groups, others, sizeof groups);
+    memcpy(groups + 2 * cell, bytes, 2);
+    struct rig_readings got = rig_cells(groups, 36, all_read, 6);
+    EXPECT(got.unmeasured == ((count == 65535 ? bit : 0) | (others == 0xFF ? rest : 0)), "65,535 alone is not measured", cell, count);
+    EXPECT(got.valid == (0x3FFFF ^ got.unmeasured), "all others are valid", cell, count);
+    EXPECT(got.counts[cell] == (count == 65535 ? 0 : count), "count of the cell", cell, count);
+    cells_by_marks(groups);
+}
+
+/* Each cell in turn at 65,535 and at counts that share one byte with it, among measured cells and among cleared ones; then every choice of
+ * cells at 65,535, the others at 65,534. */
+static void test_cleared(void) {
+    static const uint8_t low_first[][2] = {{0xFF, 0xFF}, {0xFE, 0xFF}, {0xFF, 0xFE}, {0xFF, 0x00}, {0x00, 0xFF}, {0x0F, 0xFF}};
+    static const uint8_t all_read[6] = {0}, some_read[6] = {0, 1, 0, 2, 0, 0};
+    uint8_t groups[36];
+    for (unsigned cell = 0; cell < RIG_CELLS; cell++) {
+        for (size_t i = 0; i < sizeof low_first / sizeof *low_first; i++) {
+            one_cleared(cell, low_first[i], 0x75);
+            one_cleared(cell, low_first[i], 0xFF);
+        }
+    }
+    for (uint32_t chosen = 0; chosen < (uint32_t)1 << RIG_CELLS; chosen++) {
+        memset(groups, 0xFF, sizeof groups);
+        for (unsigned c = 0; c < RIG_CELLS; c++) {
+            groups[2 * c] = (uint8_t)(0xFE | (chosen >> c & 1));
+        }
+        EXPECT(rig_cells(groups, 36, all_read, 6).unmeasured == chosen, "just the cleared cells", chosen, 0);
+        EXPECT(rig_cells(groups, 36, all_read, 6).valid == (chosen ^ 0x3FFFF), "all others are valid", chosen, 0);
+        EXPECT(rig_cells(groups, 36, some_read, 6).unmeasured == (chosen & 0x3F1C7), "of the groups that were read", chosen, 0);
+    }
 }
 
 static void test_cells(void) {
@@ -325,17 +372,14 @@ static void test_cells(void) {
     groups[1] = 0xA4;
     groups[2] = groups[3] = 0xFF;
     EXPECT(rig_cells(groups, 36, marks, 6).counts[0] == 42000, "10 A4 is 42,000", 0, 0);
-    EXPECT(rig_cells(groups, 36, marks, 6).counts[1] == 65535, "65,535 is a reading", 0, 0);
+    EXPECT(rig_cells(groups, 36, marks, 6).counts[1] == 0, "65,535 is no reading", 0, 0);
+    EXPECT(rig_cells(groups, 36, marks, 6).valid == 0x3FFFD, "65,535 is not valid", 0, 0);
+    EXPECT(rig_cells(groups, 36, marks, 6).unmeasured == 2, "65,535 is not measured", 0, 0);
     EXPECT(rig_cells(NULL, 0, NULL, 0).number == 3, "nothing at NULL", 0, 0);
     for (int step = 0; step < 9; step++) {
         one_cells(groups, near(36, step % 3 - 1), marks, near(6, step / 3 - 1));
     }
-    for (unsigned sorts = 0; sorts < 4096; sorts++) {
-        for (size_t i = 0; i < 6; i++) {
-            marks[i] = (uint8_t)((sorts >> 2 * i) & 3);
-        }
-        one_cells(groups, 36, marks, 6);
-    }
+    cells_by_marks(groups);
 }
 
 /* ---- writer, chain and reader on conversion codes ---- */
@@ -482,7 +526,7 @@ int main(int count, char **words) {
     static const struct { const char *name; void (*test)(void); } tests[] = {
         {"rig_pec", test_pec}, {"rig_write", test_write}, {"the known codes", test_codes}, {"conversion codes", test_conversions},
         {"rig_chain", test_chain}, {"rig_read", test_read}, {"conversion frames", test_conversion_frames}, {"rig_cells", test_cells},
-        {"rig_tally_add", test_tally}, {"rig_wake", test_wake}, {"stack", test_stack},
+        {"cleared cells", test_cleared}, {"rig_tally_add", test_tally}, {"rig_wake", test_wake}, {"stack", test_stack},
     };
     if (count > 1 && !no_stack) {
         fprintf(stderr, "%s: %s: the only argument that it takes is --no-stack\n", words[0], words[1]);

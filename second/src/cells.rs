@@ -6,12 +6,15 @@ use crate::reader::{READ, SILENT};
 pub const CELLS: usize = 18;
 const CELLS_OF_GROUP: usize = 3;
 const GROUPS: usize = 6;
+const CLEARED: u16 = 65_535;
 
+/// Bit c - 1 of `valid` and of `unmeasured` speaks of cell c; a cell whose group was not read is neither.
 #[derive(Clone, Copy, Debug, PartialEq, Eq)]
 pub struct Readings {
     pub number: u8,
     pub counts: [u16; CELLS],
     pub valid: u32,
+    pub unmeasured: u32,
 }
 
 /// Cell numbers count from 1.
@@ -23,12 +26,13 @@ pub struct Extremes {
     pub highest: u16,
 }
 
-/// The counts and valid bits from the 36 bytes of CVA to CVF and their six marks.
+/// The counts, valid bits and unmeasured bits from the 36 bytes of CVA to CVF and their six marks.
 pub fn cells(groups: &[u8], marks: &[u8]) -> Readings {
     let mut readings = Readings {
         number: numbers::DONE,
         counts: [0; CELLS],
         valid: 0,
+        unmeasured: 0,
     };
     if let Err(number) = lent(groups, marks) {
         readings.number = number;
@@ -36,8 +40,13 @@ pub fn cells(groups: &[u8], marks: &[u8]) -> Readings {
     }
     for (before, pair) in groups.chunks_exact(2).enumerate() {
         if marks[before / CELLS_OF_GROUP] == READ {
-            readings.counts[before] = u16::from_le_bytes([pair[0], pair[1]]);
-            readings.valid |= 1 << before;
+            match u16::from_le_bytes([pair[0], pair[1]]) {
+                CLEARED => readings.unmeasured |= 1 << before,
+                count => {
+                    readings.counts[before] = count;
+                    readings.valid |= 1 << before;
+                }
+            }
         }
     }
     readings

@@ -471,6 +471,19 @@ fn reader_refuses_in_its_order() {
     refuses_reply(16, 0x004, 132, (96, 15), 5);
 }
 
+fn cell_bytes(counts: [u16; 18]) -> Vec<u8> {
+    counts.into_iter().flat_map(u16::to_le_bytes).collect()
+}
+
+fn done(counts: [u16; 18], valid: u32, unmeasured: u32) -> Readings {
+    Readings {
+        number: 0,
+        counts,
+        valid,
+        unmeasured,
+    }
+}
+
 #[test]
 fn cell_bytes_are_low_first() {
     let mut groups = [0; 36];
@@ -486,23 +499,53 @@ fn cells_of_an_unread_group_are_not_valid() {
     let readings = cells(&groups, &[0, 1, 2, 0, 2, 0]);
     let counts = [1, 2, 3, 0, 0, 0, 0, 0, 0, 10, 11, 12, 0, 0, 0, 16, 17, 18];
     let valid = 0b111_000_111_000_000_111;
-    let number = 0;
-    assert_eq!(
-        readings,
-        Readings {
-            number,
-            counts,
-            valid
-        }
-    );
+    assert_eq!(readings, done(counts, valid, 0));
 }
 
 #[test]
-fn every_count_is_a_reading() {
-    assert_eq!(cells(&[0xFF; 36], &[0; 6]).counts, [65_535; 18]);
-    assert_eq!(cells(&[0xFF; 36], &[0; 6]).valid, 0x3FFFF);
-    assert_eq!(cells(&[0xFF; 36], &[2; 6]).counts, [0; 18]);
-    assert_eq!(cells(&[0xFF; 36], &[2; 6]).valid, 0);
+fn every_count_up_to_65_534_is_a_reading() {
+    for count in 0..=65_534 {
+        let readings = cells(&cell_bytes([count; 18]), &[0; 6]);
+        assert_eq!(readings, done([count; 18], 0x3FFFF, 0));
+    }
+}
+
+#[test]
+fn a_clear_reads_as_before_and_its_cells_are_not_measured() {
+    let mut state = state_of(1);
+    let mut reply = [0; 12];
+    serve(1, &written(1, 0x711, &[]), &mut state, &mut reply);
+    let (mut groups, mut marks) = ([0xAA; 36], [0xAA; 6]);
+    let places = groups.chunks_exact_mut(6).zip(marks.chunks_exact_mut(1));
+    for ((_, _, code), (group, mark)) in GROUPS[2..8].iter().zip(places) {
+        serve(1, &written(1, *code, &[]), &mut state, &mut reply);
+        assert_eq!(read(1, *code, &reply, group, mark), 0);
+    }
+    assert_eq!((groups, marks), ([0xFF; 36], [0; 6]));
+    assert_eq!(cells(&groups, &marks), done([0; 18], 0, 0x3FFFF));
+}
+
+#[test]
+fn cells_of_an_unread_group_are_not_unmeasured_either() {
+    for mark in [1, 2] {
+        assert_eq!(cells(&[0xFF; 36], &[mark; 6]), done([0; 18], 0, 0));
+    }
+}
+
+#[test]
+fn each_cell_of_a_group_is_measured_or_not_on_its_own() {
+    let mut held = [33_000; 18];
+    (held[0], held[4], held[5], held[17]) = (65_535, 65_535, 65_534, 65_535);
+    (held[6], held[10]) = (65_535, 65_535);
+    let mut counts = [33_000; 18];
+    (counts[0], counts[4], counts[5], counts[17]) = (0, 0, 65_534, 0);
+    counts[6..12].fill(0);
+    let valid = 0b011_111_000_000_101_110;
+    let unmeasured = 0b100_000_000_000_010_001;
+    assert_eq!(
+        cells(&cell_bytes(held), &[0, 0, 1, 2, 0, 0]),
+        done(counts, valid, unmeasured)
+    );
 }
 
 #[test]
@@ -511,6 +554,7 @@ fn refused_cells_give_zeros() {
         number: 3,
         counts: [0; 18],
         valid: 0,
+        unmeasured: 0,
     };
     assert_eq!(cells(&[], &[]), refused);
     assert_eq!(cells(&[1; 35], &[0; 6]), refused);
@@ -519,6 +563,9 @@ fn refused_cells_give_zeros() {
     assert_eq!(cells(&[1; 36], &[0; 7]), refused);
     assert_eq!(cells(&[1; 36], &[0, 0, 0, 0, 0, 3]), refused);
     assert_eq!(cells(&[1; 36], &[255, 0, 0, 0, 0, 0]), refused);
+    assert_eq!(cells(&[0xFF; 35], &[0; 6]), refused);
+    assert_eq!(cells(&[0xFF; 36], &[0; 5]), refused);
+    assert_eq!(cells(&[0xFF; 36], &[0, 0, 0, 0, 0, 3]), refused);
 }
 
 #[test]
@@ -544,6 +591,22 @@ fn extremes_are_the_first_of_equals() {
     assert_eq!(extremes(&counts, u32::MAX), found(4, 100, 6, 900));
     assert_eq!(extremes(&counts, 0), None);
     assert_eq!(extremes(&counts, !0x3FFFF), None);
+}
+
+#[test]
+fn extremes_pass_over_unmeasured_cells() {
+    let mut held = [65_535; 18];
+    (held[7], held[12]) = (65_534, 1);
+    let readings = cells(&cell_bytes(held), &[0; 6]);
+    let found = Extremes {
+        lowest_cell: 13,
+        lowest: 1,
+        highest_cell: 8,
+        highest: 65_534,
+    };
+    assert_eq!(extremes(&readings.counts, readings.valid), Some(found));
+    let cleared = cells(&[0xFF; 36], &[0; 6]);
+    assert_eq!(extremes(&cleared.counts, cleared.valid), None);
 }
 
 fn tally(counts: [u32; 4]) -> Tally {

@@ -22,6 +22,7 @@ pub struct Readings {
     number: u8,
     counts: [u16; 18],
     valid: u32,
+    unmeasured: u32,
 }
 
 #[repr(C)]
@@ -131,6 +132,7 @@ pub unsafe extern "C" fn second_cells(
         number: readings.number,
         counts: readings.counts,
         valid: readings.valid,
+        unmeasured: readings.unmeasured,
     }
 }
 

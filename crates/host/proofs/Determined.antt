@@ -24,8 +24,10 @@ reader-determined n code reply bytes marks r r′ b b′ m m′ h h′ =
 
 pub reading-determined : (groups marks : List ℕ) (r r′ : Readings) → ReadsCells groups marks r → ReadsCells groups marks r′ → r ≡ r′
 reading-determined groups marks r r′ w w′ =
-    ap₂ (λ (n : ℕ) (c : List ℕ). record { number = n; counts = c; valid = r .valid }) (w .number ∙ sym (w′ .number)) (w .counts ∙ sym (w′ .counts))
-    ∙ ap (λ (v : ℕ). record { number = r′ .number; counts = r′ .counts; valid = v }) (w .valid ∙ sym (w′ .valid))
+    ap₂ (λ (n : ℕ) (c : List ℕ). record { number = n; counts = c; valid = r .valid; unmeasured = r .unmeasured })
+    (w .number ∙ sym (w′ .number)) (w .counts ∙ sym (w′ .counts))
+    ∙ ap₂ (λ (v u : ℕ). record { number = r′ .number; counts = r′ .counts; valid = v; unmeasured = u })
+    (w .valid ∙ sym (w′ .valid)) (w .unmeasured ∙ sym (w′ .unmeasured))
 
 pub extremes-determined : (counts : List ℕ) (valid : ℕ) (r r′ : Range) → Spans counts valid r → Spans counts valid r′ → r ≡ r′
 extremes-determined counts valid r r′ w w′ = w .range ∙ sym (w′ .range)

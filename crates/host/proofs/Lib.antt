@@ -2,9 +2,9 @@ pub mod MarkLaws
 pub mod ReaderLaws
 pub mod ReaderNumbers
 pub mod ReaderDevices
-pub mod Bits
-pub mod Counts
+pub mod CellsPassed
 pub mod CellsCases
+pub mod CellEnds
 pub mod Outmost
 pub mod Ends
 pub mod Sorts

@@ -1,8 +1,8 @@
--- The cell reading of one device: eighteen counts of 100 µV and a word of eighteen valid bits. Cell c of 01 has the index c - 1 here.
--- Assumes nothing.
+-- The cell reading of one device: eighteen counts of 100 µV, a word of eighteen valid bits, and one of the cells that were not measured (02, K2). Cell c of
+-- 01 has the index c - 1 here. Assumes nothing.
 use Prim.Native.Nat.{ℕ, zero, suc, _+_, _*_, _/_}
 use mathlib.Core.Path.{_≡_}
-use mathlib.Core.Bool.{Bool, not}
+use mathlib.Core.Bool.{Bool, not, _&&_}
 use mathlib.Core.List.{List, [], _∷_, _++_}
 use lib.Dec.{eqb}
 use lib.ListN.{length, getD, replicate}
@@ -15,17 +15,25 @@ use Rattle.host.specs.declared.cells.Readings.{Readings}
 unfoldable pub countAt : List ℕ → ℕ → ℕ
 countAt groups cell = getD groups (2 * cell) 0 + 256 * getD groups (2 * cell + 1) 0
 
--- A cell is valid where its group was read; three to a group.
-unfoldable pub validAt : List ℕ → ℕ → Bool
-validAt marks cell = wasRead (getD marks (cell / 3) 0)
+-- Its group was read; three cells to a group.
+unfoldable pub readAt : List ℕ → ℕ → Bool
+readAt marks cell = wasRead (getD marks (cell / 3) 0)
 
--- Of the first n cells: the counts, 0 where not valid; and the word, a bit for each valid cell.
+-- It holds 65,535, as after a clear.
+unfoldable pub clearedAt : List ℕ → ℕ → Bool
+clearedAt groups cell = eqb (countAt groups cell) 65535
+
+-- Of a group that was read, a cell that holds 65,535 is not measured, and every other is valid.
+unfoldable pub unmeasuredAt : List ℕ → List ℕ → ℕ → Bool
+unmeasuredAt groups marks cell = readAt marks cell && clearedAt groups cell
+
+unfoldable pub validAt : List ℕ → List ℕ → ℕ → Bool
+validAt groups marks cell = readAt marks cell && not (clearedAt groups cell)
+
+-- The counts of the first n cells, 0 where not valid.
 unfoldable pub countsOf : ℕ → List ℕ → List ℕ → List ℕ
 countsOf zero groups marks = []
-countsOf (suc n) groups marks = countsOf n groups marks ++ (pick (validAt marks n) (countAt groups n) 0 ∷ [])
-
-unfoldable pub bitsOf : ℕ → List ℕ → ℕ
-bitsOf n marks = bitsWhere (validAt marks) n
+countsOf (suc n) groups marks = countsOf n groups marks ++ (pick (validAt groups marks n) (countAt groups n) 0 ∷ [])
 
 -- The number: the first that applies (01, "Numbers a call can come back with", Cells).
 unfoldable pub cellsNumber : List ℕ → List ℕ → ℕ
@@ -36,8 +44,9 @@ cellsNumber groups marks =
     ∷ (anyAbove marks, 3)  -- a mark above 2
     ∷ [])
 
--- What `reading` promises: refused cells give eighteen zeros and no valid bit.
+-- What `reading` promises: refused cells give eighteen zeros and no bit of either word.
 pub record ReadsCells (groups marks : List ℕ) (r : Readings) : Type 0 where
   pub number : r .number ≡ cellsNumber groups marks
   pub counts : r .counts ≡ pick (eqb (cellsNumber groups marks) 0) (countsOf 18 groups marks) (replicate 18 0)
-  pub valid : r .valid ≡ pick (eqb (cellsNumber groups marks) 0) (bitsOf 18 marks) 0
+  pub valid : r .valid ≡ pick (eqb (cellsNumber groups marks) 0) (bitsWhere (validAt groups marks) 18) 0
+  pub unmeasured : r .unmeasured ≡ pick (eqb (cellsNumber groups marks) 0) (bitsWhere (unmeasuredAt groups marks) 18) 0

@@ -2,38 +2,40 @@
 ghost use mathlib.Core.Path.{_≡_};
 ghost use Prim.Native.Nat.{_<_, _^_};
 ghost use lib.ListN.{length, replicate};
-ghost use Rattle.lent.specs.Refusal.{pick};
-ghost use Rattle.host.specs.Cells.{countAt, validAt, ReadsCells};
+ghost use Rattle.host.specs.Cells.{countAt, readAt, ReadsCells};
 use crate::marks;
 
-// The number, the counts of cells 1 to 18, and bit c - 1 for each valid cell c.
+// What a cell holds after a clear, until it is measured.
+const CLEARED: u16 = 65535;
+
+// In both words bit c - 1 speaks of cell c.
 #[repr(C)]
 pub struct Readings {
     pub number: u8,
+    // of cells 1 to 18
     pub counts: [u16; 18],
+    // read and measured
     pub valid: u32,
+    // read, and not measured
+    pub unmeasured: u32,
 }
 
 // Inside, cell c of 01 is c - 1. Three cells to a group.
-fn is_valid(marks: &[u8], cell: usize) -> bool
+fn is_read(marks: &[u8], cell: usize) -> bool
     requires { ⌜ (length (now marks) ≡ 6) × (cell < 18) ⌝ }
-    ensures { λ r. ⌜ r ≡ validAt (now (marks .entry)) cell ⌝ }
+    ensures { λ r. ⌜ r ≡ readAt (now (marks .entry)) cell ⌝ }
 {
     marks::was_read(marks[cell / 3])
 }
 
-// Two bytes, low first; 0 where the cell is not valid.
-fn count(groups: &[u8], valid: bool, cell: usize) -> u16
+// Two bytes, low first.
+fn count(groups: &[u8], cell: usize) -> u16
     requires { ⌜ (length (now groups) ≡ 36) × (cell < 18) ⌝ }
-    ensures { λ r. ⌜ r ≡ pick valid (countAt (now (groups .entry)) cell) 0 ⌝ }
+    ensures { λ r. ⌜ r ≡ countAt (now (groups .entry)) cell ⌝ }
 {
-    if valid {
-        let low = groups[2 * cell] as u16;
-        let high = groups[2 * cell + 1] as u16;
-        low + 256 * high
-    } else {
-        0
-    }
+    let low = groups[2 * cell] as u16;
+    let high = groups[2 * cell + 1] as u16;
+    low + 256 * high
 }
 
 fn bit(cell: usize) -> u32
@@ -44,12 +46,13 @@ fn bit(cell: usize) -> u32
 }
 
 fn refused() -> Readings
-    ensures { λ r. ⌜ (r .number ≡ 3) × (r .counts ≡ replicate 18 0) × (r .valid ≡ 0) ⌝ }
+    ensures { λ r. ⌜ (r .number ≡ 3) × (r .counts ≡ replicate 18 0) × (r .valid ≡ 0) × (r .unmeasured ≡ 0) ⌝ }
 {
     Readings {
         number: 3,
         counts: [0; 18],
         valid: 0,
+        unmeasured: 0,
     }
 }
 
@@ -68,13 +71,17 @@ pub fn reading(groups: &[u8], marks: &[u8]) -> Readings
     }
     let mut counts = [0u16; 18];
     let mut valid: u32 = 0;
+    let mut unmeasured: u32 = 0;
     let mut cell: usize = 0;
     while cell < 18 {
-        let ok = is_valid(marks, cell);
-        counts[cell] = count(groups, ok, cell);
-        // Under a test, so that the compiler unrolls the loop.
-        if ok {
-            valid += bit(cell);
+        let held = count(groups, cell);
+        if is_read(marks, cell) {
+            if held == CLEARED {
+                unmeasured += bit(cell);
+            } else {
+                counts[cell] = held;
+                valid += bit(cell);
+            }
         }
         cell += 1;
     }
@@ -82,5 +89,6 @@ pub fn reading(groups: &[u8], marks: &[u8]) -> Readings
         number: 0,
         counts: counts,
         valid: valid,
+        unmeasured: unmeasured,
     }
 }

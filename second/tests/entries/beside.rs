@@ -32,6 +32,7 @@ mod c {
         pub number: u8,
         pub counts: [u16; 18],
         pub valid: u32,
+        pub unmeasured: u32,
     }
     #[repr(C)]
     pub struct Tally {
@@ -220,6 +221,7 @@ pub fn cells(groups: &[u8], marks: &[u8]) -> Readings {
         number: c.number,
         counts: c.counts,
         valid: c.valid,
+        unmeasured: c.unmeasured,
     };
     assert_eq!(
         got,

@@ -3,6 +3,7 @@
 #![cfg(rig)]
 
 mod beside;
+mod cleared;
 mod conversions;
 mod damage;
 mod random;

@@ -185,9 +185,20 @@ fn some_marks(dice: &mut Dice, right: usize) -> Vec<u8> {
     (0..length).map(|_| dice.below(high) as u8).collect()
 }
 
+/// Cells at random, one in four of them at 65,535 or 65,534.
+fn some_cells(dice: &mut Dice) -> Vec<u8> {
+    let length = dice.length(36);
+    let mut groups = dice.bytes(length);
+    for cell in groups.chunks_exact_mut(2) {
+        if dice.one_in(4) {
+            cell.copy_from_slice(&[0xFE + dice.below(2) as u8, 0xFF]);
+        }
+    }
+    groups
+}
+
 fn random_cells_and_tally(dice: &mut Dice) {
-    let groups = dice.length(36);
-    let (groups, marks) = (dice.bytes(groups), some_marks(dice, 6));
+    let (groups, marks) = (some_cells(dice), some_marks(dice, 6));
     beside::cells(&groups, &marks);
     let mut counts = [0; 4].map(|_: u32| dice.roll() as u32);
     if dice.one_in(2) {

@@ -1,35 +1,31 @@
 -- `host::cells::count`: two bytes, low first. Assumes nothing.
+use mathlib.Core.Path.{refl}
 use Prim.Native.Nat.{_+_, _*_}
 use native.Mathlib.Omega.{arith}
 use borrow.Author.Needs.{needs}
-use Rattle.lent.specs.Refusal.{pick}
 use Rattle.host.specs.Cells.{countAt}
 use Rattle.host.proofs.cells.count.Statement.{statement}
 use Rattle.host.proofs.cells.count.Tie as tie
 
 cast-low : tie.Need-cast-low
-cast-low c = omega (arith, c .shared-slice-known .given (2 * c .before .before .args .cell))
+cast-low c = omega (arith, c .shared-slice-known .given (2 * c .before .args .cell))
 
 cast-high : tie.Need-cast-high
-cast-high c = omega (arith, c .shared-slice-known2 .given (2 * c .before .before .before .args .cell + 1))
+cast-high c = omega (arith, c .shared-slice-known2 .given (2 * c .before .before .args .cell + 1))
 
 mul-result : tie.Need-mul-result
 mul-result c =
-    let cell = c .before .before .before .args .cell in
+    let cell = c .before .before .args .cell in
     omega (arith, c .shared-slice-known2 .given (2 * cell), c .shared-slice-known2 .given (2 * cell + 1))
 
 add-result : tie.Need-add-result
 add-result c =
-    let cell = c .before .before .before .args .cell in
+    let cell = c .before .before .args .cell in
     omega (arith, c .shared-slice-known2 .given (2 * cell), c .shared-slice-known2 .given (2 * cell + 1))
 
 returns : tie.Need-returns
-unfolding pick countAt
-returns c = rw (c .before .before .if1 .taken)
-
-returns-2 : tie.Need-returns-2
-unfolding pick
-returns-2 c = rw (c .if1 .left)
+unfolding countAt
+returns c = refl
 
 pub count-spec : {M : Type 1} → statement M
 count-spec =
@@ -44,5 +40,4 @@ count-spec =
     cast-high
     mul-result
     add-result
-    returns
-    returns-2)
+    returns)
