@@ -64,10 +64,10 @@ module _ (R : Rig) (n : ℕ) (s : Sending) (before : List ℕ) (r : Seen) (O : O
 
 -- THE RUN
 module _ (R : Rig) (d : Demand3 R) (n : ℕ) (a : 1 ≤ n) (b : n ≤ 16) where
-  first-obeys : (state : List ℕ) → Bytes state → length state ≡ stateLength n → (s : Sending) → Fair n s → Obeys R n s state (step R n s state)
+  pub first-obeys : (state : List ℕ) → Bytes state → length state ≡ stateLength n → (s : Sending) → Fair n s → Obeys R n s state (step R n s state)
   first-obeys state are whole s F = d n a b state are whole (s ∷ []) (F, tt) .0
 
-  run-holds : (state : List ℕ) → Bytes state → length state ≡ stateLength n → (ss : List Sending) → AllFair n ss
+  pub run-holds : (state : List ℕ) → Bytes state → length state ≡ stateLength n → (ss : List Sending) → AllFair n ss
       → Bytes (left R n state ss) × (length (left R n state ss) ≡ stateLength n)
       × ((k h : ℕ) → k < n → h < 18 → stored k h (left R n state ss) ≡ holds n k h ss (stored k h state))
   run-holds state are whole [] fair = (are, whole, λ k h lk lh. refl)

@@ -5,4 +5,5 @@ pub mod Step
 pub mod Promise
 pub mod Demands
 pub mod Story
+pub mod Unmeasured
 pub mod Carry
