@@ -1,6 +1,6 @@
-/* A controller over rig.h: it configures a chain of cell monitors, starts conversions, polls the cells of every device over a noisy
-   wire, and shows what each device reported. The chain is simulated by rig_chain and the wire by wire.c; the rest is what a
-   builder's controller does. */
+/* A controller over rig.h: it configures a chain of cell monitors, clears their cells, polls those of every device over a noisy wire,
+   once before the first conversion and then after each, and shows what each device reported. The chain is simulated by rig_chain and
+   the wire by wire.c; the rest is what a builder's controller does. */
 #include "controller.h"
 
 #include <stdio.h>
@@ -11,6 +11,9 @@ enum { POLL_EVERY = 100000, MICROSECONDS_A_BYTE = 8, CELL_GROUPS = 6, MOST_TRIES
 
 /* ADCV of all cells at 7 kHz takes at most 2,488 microseconds (tCYCLE) where the reference is on, as our CFGA has it. */
 enum { NORMAL = 2, ALL_CELLS = 0, CONVERSION_TIME = 2488 };
+
+/* What a device holds for a cell that it has not measured since a clear. */
+enum { CLEARED = 0xFFFF };
 
 static const uint32_t read_cells[CELL_GROUPS] = {RIG_RDCVA, RIG_RDCVB, RIG_RDCVC,
                                                   RIG_RDCVD, RIG_RDCVE, RIG_RDCVF};
@@ -130,17 +133,23 @@ static void measure_cells(struct controller *c)
         }
 }
 
-/* Every device is to measure its cells. The line stays silent, so a controller does not see who heard it. */
-static void start_conversion(struct controller *c)
+/* A command group alone: whether the devices heard it. The line stays silent, so a controller does not see that. */
+static int send_command(struct controller *c, uint32_t code)
 {
     uint8_t silence[RIG_COMMAND_BYTES];
+    struct trip trip = send_frame(c, WAY_COMMAND, code, NULL, silence);
+
+    want_promise(c, trip.hit, trip.heard.word);
+    return trip.heard.number == RIG_DONE;
+}
+
+/* Every device is to measure its cells. */
+static void start_conversion(struct controller *c)
+{
     struct rig_code adcv = rig_conversion_code(RIG_CONVERT_ADCV, NORMAL, 0, 0, ALL_CELLS);
-    struct trip trip;
 
     want_done("rig_conversion_code", adcv.number);
-    trip = send_frame(c, WAY_COMMAND, adcv.code, NULL, silence);
-    want_promise(c, trip.hit, trip.heard.word);
-    if (trip.heard.number == RIG_DONE) {
+    if (send_command(c, adcv.code)) {
         measure_cells(c);
         c->heard++;
     }
@@ -148,21 +157,29 @@ static void start_conversion(struct controller *c)
     c->clock += CONVERSION_TIME;
 }
 
-/* A valid cell has to be what the device holds. */
-static void count_cells(struct controller *c, uint32_t k, const struct rig_readings *r)
+/* A valid cell has to be what the device holds, and measured; an unmeasured one has to be as a clear leaves it; and the others have to
+   be those of the groups that were not read. A count is 0 where it is not valid. */
+static void count_cells(struct controller *c, uint32_t k, const uint8_t *marks, const struct rig_readings *r)
 {
-    const uint8_t *held = c->state + RIG_STATE_BYTES(k) + 6 * RIG_GROUP_CVA;
+    const uint8_t *cells = c->state + RIG_STATE_BYTES(k) + 6 * RIG_GROUP_CVA;
+    struct counts *ours = &c->ours[k];
 
     for (uint32_t cell = 0; cell < RIG_CELLS; cell++) {
-        uint16_t count = r->counts[cell];
-        if (!(r->valid >> cell & 1))
-            continue;
-        c->ours[k].cells++;
-        c->ours[k].alarms += count > LIMIT;
-        if (count > c->ours[k].highest)
-            c->ours[k].highest = count;
-        if (count != (held[2 * cell] | held[2 * cell + 1] << 8))
-            c->false_cells++;
+        uint16_t count = r->counts[cell], held = (uint16_t)(cells[2 * cell] | cells[2 * cell + 1] << 8);
+        int read = marks[cell / 3] == RIG_MARK_READ;
+        if (r->valid >> cell & 1) {
+            ours->valid++;
+            ours->alarms += count > LIMIT;
+            if (count > ours->highest)
+                ours->highest = count;
+            c->false_cells += !read || count != held || held == CLEARED;
+        } else if (r->unmeasured >> cell & 1) {
+            ours->unmeasured++;
+            c->false_cells += !read || held != CLEARED || count != 0;
+        } else {
+            ours->not_read++;
+            c->false_cells += read || count != 0;
+        }
     }
 }
 
@@ -175,8 +192,8 @@ static void count_marks(struct controller *c, uint32_t k, const uint8_t *marks)
     }
 }
 
-/* One poll: CVA to CVF of every device, then the cells of each device that were read. */
-static void poll_cells(struct controller *c)
+/* One poll: CVA to CVF of every device, then the cells of each device. The old rule is asked where `old` is not NULL. */
+static void poll_cells(struct controller *c, struct old_counts *old)
 {
     uint32_t n = c->options.devices;
     struct answer answer;
@@ -184,7 +201,8 @@ static void poll_cells(struct controller *c)
 
     for (uint32_t g = 0; g < CELL_GROUPS; g++) {
         ask(c, read_cells[g], &answer);
-        old_rule_take(n, answer.reply, LIMIT, c->old);
+        if (old != NULL)
+            old_rule_take(n, answer.reply, LIMIT, old);
         for (uint32_t k = 0; k < n; k++) {
             memcpy(all.groups[k] + 6 * g, answer.data + 6 * k, 6);
             all.marks[k][g] = answer.marks[k];
@@ -194,7 +212,7 @@ static void poll_cells(struct controller *c)
         struct rig_readings readings = rig_cells(all.groups[k], 36, all.marks[k], CELL_GROUPS);
         want_done("rig_cells", readings.number);
         count_marks(c, k, all.marks[k]);
-        count_cells(c, k, &readings);
+        count_cells(c, k, all.marks[k], &readings);
     }
 }
 
@@ -206,13 +224,15 @@ static void run(struct controller *c)
 
     configure(c, RIG_WRCFGA, RIG_RDCFGA, cfga);
     configure(c, RIG_WRCFGB, RIG_RDCFGB, cfgb);
-    measure_cells(c); /* what the devices have from before: a conversion that is lost leaves it */
+    measure_cells(c); /* what the devices have from before */
+    c->cleared = send_command(c, RIG_CLRCELL); /* so that it passes for no reading, should the first conversion be lost */
+    poll_cells(c, NULL); /* shows whether it was heard; the old rule, which would take each cell for 6.5535 V, is left out */
     due = c->clock;
     for (uint32_t i = 1; i <= c->options.polls; i++) {
         due += POLL_EVERY;
         c->clock = due;
         start_conversion(c);
-        poll_cells(c);
+        poll_cells(c, c->old);
         if (i % PROGRESS == 0)
             fprintf(stderr, "controller: %u of %u polls\n", i, c->options.polls);
     }

@@ -15,10 +15,10 @@ struct options {
 
 /* A device by this rig's reader. */
 struct counts {
-    uint32_t read, wrong, silent; /* groups */
-    uint32_t cells;               /* valid cells */
-    uint32_t alarms;              /* valid cells above the limit */
-    uint16_t highest;             /* the highest valid count */
+    uint32_t read, wrong, silent;         /* groups */
+    uint32_t valid, unmeasured, not_read; /* cells, by rig_cells */
+    uint32_t alarms;                      /* valid cells above the limit */
+    uint16_t highest;                     /* the highest valid count */
 };
 
 struct controller {
@@ -27,13 +27,14 @@ struct controller {
     uint8_t state[RIG_STATE_BYTES(RIG_DEVICES)]; /* the registers of the chain */
     uint32_t clock, last;              /* microseconds: now, and the end of the last frame */
     uint32_t tries;                    /* rounds of write and read back that it took to configure the chain */
+    int cleared;                       /* the devices heard the clear before the first poll */
     uint32_t conversions, heard;       /* conversions started, and those of them that the devices heard */
     uint32_t frames, waits;            /* frames in all, and those that had to wait for the port to wake */
     uint64_t waited;                   /* microseconds waited */
     struct rig_tally tally;
     struct counts ours[RIG_DEVICES];
     struct old_counts old[RIG_DEVICES];
-    uint32_t false_cells; /* valid cells that are not what the device holds */
+    uint32_t false_cells; /* cells that rig_cells gives otherwise than their device holds them and their group was marked */
 };
 
 /* Reads the arguments. Returns 0 to go on, 1 where --help was asked for and shown, 2 on a bad argument, with a message. */

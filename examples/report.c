@@ -1,29 +1,44 @@
-/* The controller's report: a row a device, this rig's reader beside the old nine-in-ten rule. */
+/* The controller's report: what was read of each device, and its alarms, this rig's reader beside the old nine-in-ten rule. */
 #include "controller.h"
 
 #include <stdio.h>
 
-static const char *const noises[] = {"none", "bursts within 15 bits of a group, on one way of a frame", "wild"};
+static const char *const noises[] = {"none", "bursts within 15 bits of a group, on one way of a frame; it grows towards the far end",
+                                     "wild, on both ways of a frame; it grows towards the far end"};
 
 static double volts(uint32_t count)
 {
     return count / 10000.0;
 }
 
-static void head(const struct controller *c)
+static void head(const struct options *o)
 {
-    const struct options *o = &c->options;
-
-    printf("%u devices, %u polls of CVA to CVF, seed %u. Noise: %s%s.\n", o->devices, o->polls, o->seed, noises[o->noise],
-           o->noise == NOISE_NONE ? "" : "; it grows towards the far end");
+    printf("Chain of %u, seed %u. Sent: clear, poll, then %u x (conversion, poll).\n", o->devices, o->seed, o->polls);
+    printf("Noise: %s.\n", noises[o->noise]);
     if (o->noise == NOISE_WILD)
-        puts("WILD NOISE IS BEYOND THE PROMISE: of the groups it damages, one in some tens of thousands has a right check word again.");
-    printf("Every cell holds %.1f V to %.1f V, and one above %.2f V is an alarm for overvoltage: every alarm below is false.\n\n",
-           volts(LOWEST_CELL), volts(HIGHEST_CELL), volts(LIMIT));
-    puts("        | THIS RIG: each device by its own group            | OLD RULE: above 9 in 10 groups right, all are kept");
-    puts("        |           groups           cells                  |  groups            right");
-    puts(" device |    read   wrong  silent    valid    max V  alarms |    kept   wrong  dropped    max V  alarms");
-    puts(" -------+---------------------------------------------------+-------------------------------------------------");
+        puts("WILD NOISE IS BEYOND THE PROMISE: one in some tens of thousands of damaged groups is right again.");
+}
+
+/* Of every poll. Three cells a group. */
+static void table_of_cells(const struct controller *c)
+{
+    puts("\n        |      groups CVA to CVF       |             cells");
+    puts(" device |     read     wrong    silent |     valid unmeasured  not read");
+    puts(" -------+------------------------------+-------------------------------");
+    for (uint32_t k = 0; k < c->options.devices; k++) {
+        const struct counts *ours = &c->ours[k];
+        printf(" %6u | %8u  %8u  %8u | %9u %10u %9u\n", k + 1, ours->read, ours->wrong, ours->silent, ours->valid, ours->unmeasured,
+               ours->not_read);
+    }
+}
+
+/* The highest of some counts; of none there is none. */
+static void highest(uint32_t counts, uint16_t count)
+{
+    if (counts > 0)
+        printf(" %8.4f", volts(count));
+    else
+        printf(" %8s", "-");
 }
 
 /* As long as the alarms are many, so that the eye finds the far end. */
@@ -38,13 +53,6 @@ static void bar(uint32_t alarms, uint32_t most)
     putchar('\n');
 }
 
-static void row(uint32_t device, const struct counts *ours, const struct old_counts *old, uint32_t most)
-{
-    printf(" %6u | %7u %7u %7u %8u   %6.4f %7u | %7u %7u %8u   %6.4f %7u", device, ours->read, ours->wrong, ours->silent, ours->cells,
-           volts(ours->highest), ours->alarms, old->kept, old->wrong_kept, old->right_dropped, volts(old->highest), old->alarms);
-    bar(old->alarms, most);
-}
-
 static uint32_t most_alarms(const struct controller *c)
 {
     uint32_t most = 0;
@@ -55,10 +63,33 @@ static uint32_t most_alarms(const struct controller *c)
     return most;
 }
 
+static void table_of_alarms(const struct controller *c)
+{
+    printf("\nEvery cell has %.1f V to %.1f V. Above %.2f V is an alarm for overvoltage, so every alarm is false.\n",
+           volts(LOWEST_CELL), volts(HIGHEST_CELL), volts(LIMIT));
+    puts("The old rule is left out of the poll after the clear: it takes a cleared cell for 6.5535 V.\n");
+    puts("        | THIS RIG: each    | OLD RULE: above 9 in 10 groups right, all are kept");
+    puts("        | group by itself   |   groups               right");
+    puts(" device |    max V   alarms |     kept     wrong   dropped    max V   alarms");
+    puts(" -------+-------------------+-----------------------------------------------");
+    for (uint32_t k = 0; k < c->options.devices; k++) {
+        const struct counts *ours = &c->ours[k];
+        const struct old_counts *old = &c->old[k];
+        printf(" %6u |", k + 1);
+        highest(ours->valid, ours->highest);
+        printf(" %8u | %8u  %8u  %8u", ours->alarms, old->kept, old->wrong_kept, old->right_dropped);
+        highest(old->kept, old->highest);
+        printf(" %8u", old->alarms);
+        bar(old->alarms, most_alarms(c));
+    }
+}
+
 static void sums(const struct controller *c, struct counts *ours, struct old_counts *old)
 {
     for (uint32_t k = 0; k < c->options.devices; k++) {
-        ours->cells += c->ours[k].cells;
+        ours->valid += c->ours[k].valid;
+        ours->unmeasured += c->ours[k].unmeasured;
+        ours->not_read += c->ours[k].not_read;
         ours->alarms += c->ours[k].alarms;
         old->alarms += c->old[k].alarms;
         old->right_dropped += c->old[k].right_dropped;
@@ -67,13 +98,15 @@ static void sums(const struct controller *c, struct counts *ours, struct old_cou
 
 static void promise(const struct controller *c, uint32_t cells)
 {
-    if (c->options.noise == NOISE_WILD)
-        printf("Beyond the promise: %u of %u valid cells are not what their device holds.\n", c->false_cells, cells);
-    else if (c->false_cells > 0)
-        printf("WRONG: %u of %u valid cells are not what their device holds: the promise is broken (seed %u).\n", c->false_cells, cells,
+    if (c->options.noise == NOISE_WILD) {
+        printf("Beyond the promise: of %u cells %u are not what rig_cells says of them.\n", cells, c->false_cells);
+    } else if (c->false_cells > 0) {
+        printf("WRONG: of %u cells %u are not what rig_cells says of them: the promise is broken (seed %u).\n", cells, c->false_cells,
                c->options.seed);
-    else
-        printf("Checked: all %u valid cells are what their device holds, and a group was read exactly where noise spared it.\n", cells);
+    } else {
+        printf("Checked: each of %u cells is what rig_cells says of it: valid, unmeasured or not read.\n", cells);
+        puts("Checked: a group was read exactly where noise spared it and its command.");
+    }
 }
 
 void report(const struct controller *c)
@@ -81,19 +114,22 @@ void report(const struct controller *c)
     struct counts ours = {0};
     struct old_counts old = {0};
 
-    head(c);
-    for (uint32_t k = 0; k < c->options.devices; k++)
-        row(k + 1, &c->ours[k], &c->old[k], most_alarms(c));
+    head(&c->options);
+    table_of_cells(c);
+    table_of_alarms(c);
     sums(c, &ours, &old);
-    printf("\nAlarms: %u by this rig; %u by the old rule, which also dropped %u right groups.\n", ours.alarms, old.alarms,
+    printf("\nCells: %u valid, %u unmeasured (read, and as a clear leaves them), %u not read.\n", ours.valid, ours.unmeasured,
+           ours.not_read);
+    printf("Alarms: %u by this rig; %u by the old rule, which also dropped %u right groups.\n", ours.alarms, old.alarms,
            old.right_dropped);
     if (c->options.devices <= 10)
-        puts("In a chain of up to ten devices more than nine in ten is all of them, so that the old rule keeps no wrong group there.");
-    printf("Conversions: %u sent (ADCV), one before each poll; every device heard %u, and no device the other %u.\n",
-           c->conversions, c->heard, c->conversions - c->heard);
-    printf("Link tally: %u replies (configuration included), %u groups read, %u wrong, %u silent.\n", c->tally.replies, c->tally.read,
+        puts("Above nine in ten of up to ten devices is all of them: there the old rule keeps no wrong group.");
+    printf("Configured in %u rounds of write and read back.\n", c->tries);
+    printf("Clear (CLRCELL): 1 sent; %s.\n", c->cleared ? "every device heard it" : "no device heard it, and each kept what it had");
+    printf("Conversions (ADCV): %u sent; every device heard %u, and no device the other %u.\n", c->conversions, c->heard,
+           c->conversions - c->heard);
+    printf("Link tally with configuration: %u replies; %u groups read, %u wrong, %u silent.\n", c->tally.replies, c->tally.read,
            c->tally.wrong, c->tally.silent);
-    printf("Wake: %u of %u frames waited for the port, %llu us in all. Configured in %u rounds of write and read back.\n", c->waits,
-           c->frames, (unsigned long long)c->waited, c->tries);
-    promise(c, ours.cells);
+    printf("Wake: %u of %u frames waited for the port, %llu us in all.\n", c->waits, c->frames, (unsigned long long)c->waited);
+    promise(c, ours.valid + ours.unmeasured + ours.not_read);
 }
