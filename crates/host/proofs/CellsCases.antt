@@ -12,7 +12,7 @@ use lib.ListN.{length, getD, replicate, length-replicate}
 use lib.Pow.{pow-pos, pow-mono, shr-lt}
 use Rattle.lent.specs.Refusal.{pick, first}
 use Rattle.lent.specs.Word.{bitsWhere}
-use Rattle.lent.proofs.BitsWhere.{bits-below, bits-at}
+use Rattle.lent.proofs.BitsWhere.{bit-or-none, bits-below, bits-at}
 use Rattle.lent.proofs.Over.{over-full}
 use Rattle.lent.proofs.Pick.{pick-true, pick-false}
 use Rattle.lent.proofs.Tests.{lt-or-le}
@@ -100,16 +100,12 @@ module _ (groups marks : List ℕ) where
     pub never-both : r .valid / 2 ^ c % 2 + r .unmeasured / 2 ^ c % 2 ≤ 1
     never-both = go (eqb (cellsNumber groups marks) 0) refl
       where
-        most : (b : Bool) → pick b 1 0 ≤ 1
-        most true = unfold pick in omega arith
-        most false = unfold pick in omega arith
-
         go : (b : Bool) → eqb (cellsNumber groups marks) 0 ≡ b → r .valid / 2 ^ c % 2 + r .unmeasured / 2 ^ c % 2 ≤ 1
         go true e =
             let z : r .number ≡ 0 = w .number ∙ eqb-true (cellsNumber groups marks) 0 e in
             let bits = eighteen-bits r w z in
             ⊎-elim
-            (λ h. omega (arith, one-of-three r w z c h, most (readAt marks c)))
+            (λ h. bit-or-none (readAt marks c) 1 _ (one-of-three r w z c h))
             (λ h. let fits = pow-mono {i = 18} {j = c} h in apart-past (lt-of-lt-of-le (bits .0) fits) (lt-of-lt-of-le (bits .1) fits))
             (lt-or-le c 18)
         go false e =

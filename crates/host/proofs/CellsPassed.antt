@@ -1,13 +1,13 @@
 -- The cells passed so far, their counts and the two words, and a turn of the loop by what the cell is. Assumes nothing.
 use mathlib.Core.Path.{_≡_, refl, sym, ap, _∙_}
 use mathlib.Core.Bool.{true, false}
-use mathlib.Core.List.{List, [], _∷_, _++_, append-assoc}
-use Prim.Native.Nat.{ℕ, suc, _+_, _^_, _<_}
+use mathlib.Core.List.{List}
+use Prim.Native.Nat.{ℕ, _+_, _^_, _<_}
 use native.Mathlib.Numerals.{add-one}
 use native.Mathlib.Omega.{arith}
 use borrow.Author.Tests.{eq-eqb, ne-eqb}
-use lib.ListN.{length, getD, set, drop, replicate, length-replicate, getD-replicate}
-use lib.Seq.{drop-cons}
+use lib.ListN.{length, getD, set, drop, replicate, getD-replicate}
+use lib.Seq.{getD-append-add, getD-drop, set-getD}
 use Rattle.lent.specs.Memory.{over}
 use Rattle.lent.specs.Refusal.{pick}
 use Rattle.lent.specs.Word.{bitsWhere}
@@ -59,14 +59,14 @@ module _ (groups marks : List ℕ) where
   unfolding over countsOf pick
   zero-stays c counts h f e =
       let passed : List ℕ = countsOf c groups marks in
-      let none : 0 ≡ count groups marks c = rw f in
-      e
-      ∙ ap (λ (n : ℕ). passed ++ drop n zeros) (length-counts c)
-      ∙ ap (λ (l : List ℕ). passed ++ l) (drop-cons zeros c 0 (omega (arith, length-replicate {A = ℕ} 18 0)) ∙ ap (λ (x : ℕ). x ∷ drop (suc c) zeros) (getD-replicate 18 c 0 0 h))
-      ∙ sym (append-assoc passed (0 ∷ []) (drop (suc c) zeros))
-      ∙ ap (λ (x : ℕ). (passed ++ (x ∷ [])) ++ drop (suc c) zeros) none
-      ∙ ap (λ (n : ℕ). countsOf (suc c) groups marks ++ drop n zeros) (sym (length-counts (suc c)))
-      ∙ ap (λ (n : ℕ). over (countsOf n groups marks) zeros) (sym (add-one c))
+      let here : length passed + 0 ≡ c = omega (arith, length-counts c) in
+      let stands : getD (over passed zeros) c 0 ≡ 0 =
+      ap (λ (i : ℕ). getD (over passed zeros) i 0) (sym here)
+      ∙ getD-append-add passed (drop (length passed) zeros) 0 0
+      ∙ getD-drop (length passed) zeros 0 0
+      ∙ ap (λ (i : ℕ). getD zeros i 0) here
+      ∙ getD-replicate 18 c 0 0 h in
+      e ∙ sym (set-getD (over passed zeros) c 0) ∙ ap (set (over passed zeros) c) stands ∙ over-set passed zeros c 0 (length-counts c) h ∙ rw (add-one, f)
 
   module _ (c : ℕ) (counts : List ℕ) (valid unmeasured : ℕ) (h : c < 18) (s : SoFar c counts valid unmeasured) where
     pub step-unread : readAt marks c ≡ false → SoFar (c + 1) counts valid unmeasured

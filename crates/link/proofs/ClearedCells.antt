@@ -1,4 +1,5 @@
--- After a clear of the cells that acted no cell is valid until the owner of the state changes it: no frame of ours writes those groups. Assumes nothing.
+-- After a clear of the cells that acted no cell is valid until the owner of the state changes it: no frame of ours writes those groups. And the hypotheses
+-- can be met. Assumes nothing.
 use mathlib.Core.Path.{_≡_, refl, sym, ap, ap₂, _∙_}
 use mathlib.Core.Bool.{Bool, true, false, not, _&&_}
 use mathlib.Core.List.{List, [], _∷_}
@@ -6,27 +7,32 @@ use Prim.Native.Nat.{ℕ, _+_, _*_, _/_, _%_, _≤_, _<_}
 use native.Mathlib.Omega.{arith}
 use borrow.Author.Tests.{eqb-true, eq-eqb, not-true}
 use lib.Dec.{eqb}
-use lib.ListN.{getD, drop, replicate, getD-replicate}
+use lib.ListN.{length, getD, drop, replicate, getD-replicate}
 use lib.Seq.{getD-take, getD-drop}
+use Rattle.lent.specs.Bytes.{Bytes}
 use Rattle.lent.specs.Refusal.{pick}
 use Rattle.lent.proofs.Pick.{pick-true, pick-false}
-use Rattle.lent.proofs.Tests.{each-below}
+use Rattle.lent.proofs.Tests.{and-left, and-right, each-below}
+use Rattle.frames.specs.Kind.{frameLength}
 use Rattle.frames.specs.Commands.{Row, rows, found, kindOf, groupOf}
 use Rattle.frames.specs.Places.{six}
 use Rattle.frames.proofs.Lookup.{every, looked-up}
-use Rattle.chain.specs.State.{stored}
+use Rattle.frames.proofs.KindCases.{needs-none}
+use Rattle.pec.proofs.Mask.{unhit-take, unhit-zeros}
+use Rattle.chain.specs.State.{stateLength, stored}
 use Rattle.host.specs.Marks.{wasRead}
 use Rattle.host.specs.Cells.{countAt, readAt, clearedAt, unmeasuredAt, validAt}
 use Rattle.host.proofs.CellsCases.{each-bit, each-unmeasured}
 use Rattle.link.specs.Rig.{Rig, ours}
-use Rattle.link.specs.Sending.{Sending, kind, group}
+use Rattle.link.specs.Sending.{Sending, kind, group, Fair}
 use Rattle.link.specs.Promise.{lost, missed, sweeps, unread, Reads}
 use Rattle.link.specs.Step.{Seen, step}
-use Rattle.link.specs.Demands.{Demand3}
+use Rattle.link.specs.Demands.{AllFair, Demand3}
 use Rattle.link.specs.Story.{takes, holds, left}
 use Rattle.link.specs.Unmeasured.{clearsCells, AfterClear, HandedOn, Unmeasured}
 use Rattle.link.proofs.DemandLaws.{demand3}
 use Rattle.link.proofs.StoryLaws.{first-obeys, run-holds}
+use Rattle.link.proofs.FairFrames.{plain, quiet, plain-fair}
 
 -- No write has a group that this clear sweeps: one test computed over the rows.
 apartTest : ℕ → Row → Bool
@@ -118,6 +124,7 @@ module _ (R : Rig) (d : Demand3 R) (n : ℕ) (n1 : 1 ≤ n) (n16 : n ≤ 16) (st
 
   module _ (groups marks : List ℕ) (H : HandedOn k g seen groups marks) where
     byte-at : (i : ℕ) → i < 6 → was ≡ true → getD groups (6 * g + i) 0 ≡ 255
+    unfolding six
     byte-at i h e =
         sym (getD-drop (6 * g) groups i 0)
         ∙ sym (getD-take 6 (drop (6 * g) groups) i 0 h)
@@ -165,3 +172,36 @@ unmeasured R d n a b state clear run read g A k lk groups marks H r w z c e =
 
 pub our-unmeasured : Unmeasured ours
 our-unmeasured = unmeasured ours demand3
+
+-- THE HYPOTHESES CAN BE MET, for every size, state, run and group of cells: with no noise on the clear and on the read
+abbrev pub cellRead : ℕ → ℕ
+cellRead g = getD (0x004 ∷ 0x006 ∷ 0x008 ∷ 0x00A ∷ 0x009 ∷ 0x00B ∷ []) g 0
+
+readTest : ℕ → Bool
+readTest g = eqb (kindOf (cellRead g)) 2 && eqb (groupOf (cellRead g)) (2 + g)
+
+read-tested : (g : ℕ) → g < 6 → readTest g ≡ true
+unfolding readTest kindOf groupOf rows found pick
+read-tested g h = each-below readTest 6 refl g h
+
+-- a frame that takes no data
+no-data : (n code : ℕ) → 2 ≤ kindOf code → Fair n (plain n code [])
+no-data n code h = plain-fair n code [] (λ e. omega arith) (sym (needs-none n (kindOf code) (λ e. omega arith))) tt
+
+pub after-clear-met : (n : ℕ) (state : List ℕ) → Bytes state → length state ≡ stateLength n → (run : List Sending) → AllFair n run → (g : ℕ) → g < 6
+    → AfterClear n state (plain n clearsCells []) run (plain n (cellRead g) []) g
+unfolding lost readTest
+after-clear-met n state are whole run fair g h =
+    let is-read = eqb-true (kindOf (cellRead g)) 2 (and-left (eqb (kindOf (cellRead g)) 2) (eqb (groupOf (cellRead g)) (2 + g)) (read-tested g h)) in
+    record {
+      are-bytes = are;
+      whole = whole;
+      fair = no-data n clearsCells (omega (arith, is-clear));
+      clears = refl;
+      acted = unhit-take 4 (quiet n clearsCells) (unhit-zeros (frameLength n (kindOf clearsCells)));
+      run-fair = fair;
+      read-fair = no-data n (cellRead g) (omega (arith, is-read));
+      is-read = is-read;
+      a-group = h;
+      of-cells = eqb-true (groupOf (cellRead g)) (2 + g) (and-right (eqb (kindOf (cellRead g)) 2) (eqb (groupOf (cellRead g)) (2 + g)) (read-tested g h));
+    }

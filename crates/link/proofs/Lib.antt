@@ -8,9 +8,9 @@ pub mod Held
 pub mod DemandLaws
 pub mod Carrying
 pub mod StoryLaws
-pub mod ClearedCells
 pub mod CarryLaws
 pub mod FairFrames
+pub mod ClearedCells
 pub mod WrongHosts
 pub mod WrongChains
 pub mod WrongQuiet

@@ -1,10 +1,10 @@
 -- What a clear of the cells leaves behind (02, K2). After a clear 711 that acted, over any run of our frames with noise of the class: no cell that is read is valid,
 -- and every cell of a group with mark 0 is unmeasured. No frame of ours writes those groups; only the owner of the lent state can change that. Assumes nothing.
-use Prim.Native.Nat.{ℕ, _+_, _*_, _/_, _%_, _^_, _<_, _≤_}
+use Prim.Native.Nat.{ℕ, _+_, _/_, _%_, _^_, _<_, _≤_}
 use mathlib.Core.Path.{_≡_}
 use mathlib.Core.Bool.{false}
 use mathlib.Core.List.{List, _∷_}
-use lib.ListN.{length, getD, take, drop}
+use lib.ListN.{length, getD}
 use Rattle.lent.specs.Bytes.{Bytes}
 use Rattle.lent.specs.Refusal.{pick}
 use Rattle.frames.specs.Places.{six}
@@ -38,7 +38,7 @@ pub record AfterClear (n : ℕ) (state : List ℕ) (clear : Sending) (run : List
 
 -- What the host hands to the cells of device k + 1: the bytes and the mark of this read are those of the g-th group. Whence the others come plays no part.
 pub record HandedOn (k g : ℕ) (seen : Seen) (groups marks : List ℕ) : Type 0 where
-  pub bytes : take 6 (drop (6 * g) groups) ≡ six k (seen .bytes)
+  pub bytes : six g groups ≡ six k (seen .bytes)
   pub mark : getD marks g 0 ≡ getD (seen .marks) k 0
 
 -- The three cells of the group: none is valid, and each is unmeasured exactly if the group was read.
