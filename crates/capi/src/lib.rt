@@ -10,10 +10,10 @@ ghost use Rattle.capi.specs.Lent.{AddsLent};
 use chain::Heard;
 use frames::conversions::Code;
 use frames::conversions::Conversion;
-use frames::writer::Written;
 use host::cells::Readings;
 use host::tally::Tally;
 use host::wake::Wake;
+use lent::Written;
 
 // The check word.
 #[no_mangle]

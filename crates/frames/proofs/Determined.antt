@@ -2,7 +2,7 @@
 use mathlib.Core.Path.{_≡_, sym, ap, ap₂, _∙_}
 use mathlib.Core.List.{List}
 use Prim.Native.Nat.{ℕ}
-use Rattle.frames.specs.declared.writer.Written.{Written}
+use Rattle.lent.specs.declared.Written.{Written}
 use Rattle.frames.specs.Writer.{writerLength, writerOut, Wrote}
 use Rattle.lent.specs.Refusal.{pick}
 use lib.Dec.{eqb}

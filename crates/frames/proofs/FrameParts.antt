@@ -23,7 +23,7 @@ use Rattle.frames.specs.Commands.{kindOf}
 use Rattle.frames.specs.Places.{six, wire}
 use Rattle.frames.specs.Frame.{writeGroups, frameBody, frameOf}
 use Rattle.frames.specs.Writer.{writerNumber, writerLength, writerOut, Wrote}
-use Rattle.frames.specs.declared.writer.Written.{Written}
+use Rattle.lent.specs.declared.Written.{Written}
 use Rattle.frames.proofs.Lookup.{known-below}
 use Rattle.frames.proofs.GroupLaws.{length-six, length-writeGroups}
 use Rattle.frames.proofs.KindCases.{length-short, body-short}

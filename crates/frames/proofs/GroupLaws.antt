@@ -1,6 +1,6 @@
 -- The data groups of a write: how long they are, and one by one. Assumes nothing.
 use mathlib.Core.Path.{_≡_, refl, sym, ap, _∙_}
-use mathlib.Core.List.{List, [], _∷_, _++_, append-nil}
+use mathlib.Core.List.{List, _++_, append-nil}
 use Prim.Native.Nat.{ℕ, zero, suc, _+_, _*_, _-_, _≤_, _<_, _/_, _%_}
 use native.Mathlib.Omega.{arith}
 use lib.ListN.{length, take, drop, set, length-append, length-take, length-drop, drop-of-length-le}
@@ -14,7 +14,7 @@ use Rattle.pec.proofs.Group.{length-withPec}
 use Rattle.frames.specs.Places.{six}
 use Rattle.frames.specs.Frame.{writeGroups}
 
--- six bytes and the two stores behind them are a data group, four stores a command group
+-- six bytes and the two stores behind them are a data group
 pub group-put : (d part copy : List ℕ) (word : ℕ) → length d ≡ 6 → length part ≡ 8 → copy ≡ over d part → word ≡ pecOf d
     → set (set copy 6 (word / 256)) 7 (word % 256) ≡ withPec d
 unfolding withPec twoBytes
@@ -22,10 +22,6 @@ group-put d part copy word h k ec ew =
     let long : length (over d part) ≡ 8 = length-over d part (omega arith) ∙ k in
     rw (ec, ew)
     (sets-eq (twoBytes (pecOf d)) (over d part) 6 (omega arith) ∙ rw (take-over d part 6 h, drop-of-length-le (over d part) {i = 8} (omega arith), append-nil))
-
-pub four-stored : (part : List ℕ) (a b c d : ℕ) → length part ≡ 4 → set (set (set (set part 0 a) 1 b) 2 c) 3 d ≡ a ∷ b ∷ c ∷ d ∷ []
-four-stored part a b c d h =
-    sets-eq (a ∷ b ∷ c ∷ d ∷ []) part 0 (omega arith) ∙ ap (λ (l : List ℕ). a ∷ b ∷ c ∷ d ∷ l) (drop-of-length-le part {i = 4} (omega arith))
 
 pub length-six : (k : ℕ) (bytes : List ℕ) → 6 * k + 6 ≤ length bytes → length (six k bytes) ≡ 6
 unfolding six

@@ -11,7 +11,7 @@ use Rattle.frames.specs.Size.{outside}
 use Rattle.frames.specs.Kind.{isUnknown, dataNeeded, frameLength}
 use Rattle.frames.specs.Commands.{kindOf}
 use Rattle.frames.specs.Frame.{frameOf}
-use Rattle.frames.specs.declared.writer.Written.{Written}
+use Rattle.lent.specs.declared.Written.{Written}
 
 -- The number: the first that applies (01, "Numbers a call can come back with", Writer).
 unfoldable pub writerNumber : ℕ → ℕ → ℕ → ℕ → ℕ

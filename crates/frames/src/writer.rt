@@ -10,12 +10,7 @@ ghost use Rattle.frames.specs.Writer.{Wrote};
 use crate::commands;
 use crate::groups;
 use crate::size;
-
-#[repr(C)]
-pub struct Written {
-    pub number: u8,
-    pub length: usize,
-}
+use lent::Written;
 
 // How many bytes of host data a command of a kind takes.
 fn data_needed(n: usize, kind: u8) -> usize

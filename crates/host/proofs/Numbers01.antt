@@ -2,6 +2,7 @@
 use mathlib.Core.Path.{_≡_, refl}
 use mathlib.Core.List.{[], _∷_}
 use lib.ListN.{getD}
+use Rattle.lent.specs.LowFirst.{lowFirstAt}
 use Rattle.pec.specs.Register.{step, remainderOf, pecOf}
 use Rattle.pec.specs.Polynomial.{timesX, entryOf}
 use Rattle.pec.specs.Remainders.{remainders}
@@ -28,5 +29,5 @@ pub numbers :
     × (getD remainders 128 0 ≡ 0x2213)
     -- cell bytes 10 A4
     × (countAt (0x10 ∷ 0xA4 ∷ []) 0 ≡ 42000)
-unfolding step remainderOf pecOf timesX entryOf remainders countAt
+unfolding step remainderOf pecOf timesX entryOf remainders countAt lowFirstAt
 numbers = (refl, refl, refl, refl, refl, refl, refl, refl, refl, refl, refl, refl, refl, refl, refl, refl, refl)

@@ -6,6 +6,7 @@ use mathlib.Core.Bool.{Bool, not, _&&_}
 use mathlib.Core.List.{List, [], _∷_, _++_}
 use lib.Dec.{eqb}
 use lib.ListN.{length, getD, replicate}
+use Rattle.lent.specs.LowFirst.{lowFirstAt}
 use Rattle.lent.specs.Refusal.{pick, first}
 use Rattle.lent.specs.Word.{bitsWhere}
 use Rattle.host.specs.Marks.{wasRead, anyAbove}
@@ -13,7 +14,7 @@ use Rattle.host.specs.declared.cells.Readings.{Readings}
 
 -- A cell is two bytes, low first, in order.
 unfoldable pub countAt : List ℕ → ℕ → ℕ
-countAt groups cell = getD groups (2 * cell) 0 + 256 * getD groups (2 * cell + 1) 0
+countAt groups cell = lowFirstAt groups (2 * cell)
 
 -- Its group was read; three cells to a group.
 unfoldable pub readAt : List ℕ → ℕ → Bool

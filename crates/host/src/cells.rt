@@ -28,14 +28,11 @@ fn is_read(marks: &[u8], cell: usize) -> bool
     marks::was_read(marks[cell / 3])
 }
 
-// Two bytes, low first.
 fn count(groups: &[u8], cell: usize) -> u16
     requires { ⌜ (length (now groups) ≡ 36) × (cell < 18) ⌝ }
     ensures { λ r. ⌜ r ≡ countAt (now (groups .entry)) cell ⌝ }
 {
-    let low = groups[2 * cell] as u16;
-    let high = groups[2 * cell + 1] as u16;
-    low + 256 * high
+    lent::low_first(groups, 2 * cell)
 }
 
 fn bit(cell: usize) -> u32

@@ -3,7 +3,8 @@ pub mod Pick
 pub mod First
 pub mod BitsWhere
 pub mod Bytes
+pub mod LowFirst
 pub mod Over
-pub mod Six
+pub mod Stores
 pub mod Splice
 pub mod Parts

@@ -30,6 +30,13 @@ over-more new piece old a e n p h =
     let both : length (new ++ piece) ≡ a + length piece = omega (arith, length-append new piece) in
     rw (take-at new (drop (length new) old) a n, drop-at new (drop (length new) old) a n, size, n, drop-drop (length piece) a old, both, append-assoc)
 
+-- two pieces, the first written through the part from 0 to a, the second through the part from a to e
+pub over-two : (one two old : List ℕ) (a e : ℕ) → length one ≡ a → e ≡ a + length two → e ≤ length old
+    → putMid a (e - a) (putMid 0 (a - 0) old one) two ≡ over (one ++ two) old
+over-two one two old a e n p h =
+    ap (λ (l : List ℕ). putMid a (e - a) l two) (ap (λ (l : List ℕ). putMid 0 (a - 0) l one) (over-none old) ∙ over-more [] one old 0 a refl (omega arith) (omega arith))
+    ∙ over-more one two old a e n p h
+
 -- one byte more
 pub over-set : (new old : List ℕ) (k v : ℕ) → length new ≡ k → k < length old → set (over new old) k v ≡ over (new ++ (v ∷ [])) old
 unfolding over

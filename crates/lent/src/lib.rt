@@ -1,8 +1,16 @@
 // Work on lent bytes.
 ghost use mathlib.Core.Path.{_≡_};
-ghost use Prim.Native.Nat.{_≤_};
+ghost use Prim.Native.Nat.{_+_, _≤_};
 ghost use lib.ListN.{length, replicate};
+ghost use Rattle.lent.specs.LowFirst.{lowFirstAt};
 ghost use Rattle.lent.specs.Memory.{over};
+
+// What a writer came to: its number, and how many bytes of the output it wrote.
+#[repr(C)]
+pub struct Written {
+    pub number: u8,
+    pub length: usize,
+}
 
 // Every byte of `part` becomes `value`.
 pub fn fill(part: &mut [u8], value: u8)
@@ -32,4 +40,14 @@ pub fn copy_six(bytes: &[u8], part: &mut [u8])
     part[3] = fourth;
     part[4] = fifth;
     part[5] = sixth;
+}
+
+// The number of the two bytes from `at` on, low byte first.
+pub fn low_first(bytes: &[u8], at: usize) -> u16
+    requires { ⌜ at + 2 ≤ length (now bytes) ⌝ }
+    ensures { λ r. ⌜ r ≡ lowFirstAt (now (bytes .entry)) at ⌝ }
+{
+    let low = bytes[at] as u16;
+    let high = bytes[at + 1] as u16;
+    low + 256 * high
 }

@@ -10,7 +10,7 @@ use Rattle.lent.specs.Memory.{over}
 use Rattle.lent.proofs.Tests.{lt-or-le}
 use Rattle.pec.specs.Noise.{noisy}
 use Rattle.pec.proofs.Mask.{length-noisy}
-use Rattle.frames.specs.declared.writer.Written.{Written}
+use Rattle.lent.specs.declared.Written.{Written}
 use Rattle.frames.specs.Writer.{Wrote}
 use Rattle.chain.specs.declared.Heard.{Heard}
 use Rattle.chain.specs.Chain.{chainWord, Serves}

@@ -10,6 +10,7 @@ use lib.Dec.{eqb}
 use lib.ListN.{length, getD, drop, replicate, getD-replicate}
 use lib.Seq.{getD-take, getD-drop}
 use Rattle.lent.specs.Bytes.{Bytes}
+use Rattle.lent.specs.LowFirst.{lowFirstAt}
 use Rattle.lent.specs.Refusal.{pick}
 use Rattle.lent.proofs.Pick.{pick-true, pick-false}
 use Rattle.lent.proofs.Tests.{and-left, and-right, each-below}
@@ -137,7 +138,7 @@ module _ (R : Rig) (d : Demand3 R) (n : ℕ) (n1 : 1 ≤ n) (n16 : n ≤ 16) (st
       read-at = ap (λ (i : ℕ). wasRead (getD marks i 0)) e ∙ ap wasRead (H .mark)
 
       cleared-at : was ≡ true → clearedAt groups c ≡ true
-      unfolding clearedAt countAt
+      unfolding clearedAt countAt lowFirstAt
       cleared-at w =
           let low : 2 * c ≡ 6 * g + 2 * (c % 3) = omega arith in
           let high : 2 * c + 1 ≡ 6 * g + (2 * (c % 3) + 1) = omega arith in

@@ -2,7 +2,7 @@
 use native.Mathlib.Omega.{arith}
 use borrow.Author.Needs.{needs}
 use lib.ListN.{length-set}
-use Rattle.lent.proofs.Six.{six-stored}
+use Rattle.lent.proofs.Stores.{six-stored}
 use Rattle.lent.proofs.copy_six.Statement.{statement}
 use Rattle.lent.proofs.copy_six.Tie as tie
 

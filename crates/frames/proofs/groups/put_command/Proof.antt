@@ -2,8 +2,8 @@
 use mathlib.Core.Path.{_∙_}
 use Prim.Native.Nat.{_/_, _%_}
 use borrow.Author.Needs.{needs}
+use Rattle.lent.proofs.Stores.{four-stored}
 use Rattle.pec.specs.Group.{twoBytes, withPec}
-use Rattle.frames.proofs.GroupLaws.{four-stored}
 use Rattle.frames.proofs.groups.put_command.Statement.{statement}
 use Rattle.frames.proofs.groups.put_command.Tie as tie
 
