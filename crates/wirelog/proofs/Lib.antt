@@ -1,0 +1,9 @@
+pub mod KindLaws
+pub mod PutLaws
+pub mod FoundLaws
+pub mod RecordLaws
+pub mod WalkLaws
+pub mod Undone
+pub mod Determined
+pub mod RowLaws
+pub mod ReadingLaws
