@@ -10,4 +10,5 @@ pub mod pec;
 pub mod reader;
 pub mod tally;
 pub mod wake;
+pub mod wirelog;
 pub mod writer;

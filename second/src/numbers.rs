@@ -10,6 +10,8 @@ pub const FRAME_LENGTH: u8 = 6;
 pub const NO_READ: u8 = 7;
 pub const TALLY_FULL: u8 = 8;
 pub const OUT_OF_RANGE: u8 = 9;
+pub const LOG_BROKEN: u8 = 10;
+pub const LOG_LIMITS: u8 = 11;
 
 /// The chain size as a length, or the refusal of a size outside 1 to 16.
 pub fn devices(n: u32) -> Result<usize, u8> {

@@ -3,7 +3,7 @@
 //! Each function asks of its caller what rig.h asks: true lengths, buffers apart, aligned records.
 
 use core::slice::{from_raw_parts, from_raw_parts_mut};
-use second::{cells, chain, conversions, pec, reader, tally, writer};
+use second::{cells, chain, conversions, pec, reader, tally, wirelog, writer};
 
 #[repr(C)]
 pub struct Written {
@@ -49,9 +49,52 @@ pub struct Conversion {
     choice: u32,
 }
 
+#[repr(C)]
+pub struct Record {
+    number: u8,
+    end: u8,
+    kind: u32,
+    body: usize,
+    body_len: usize,
+    next: usize,
+}
+
+#[repr(C)]
+pub struct Walk {
+    number: u8,
+    at: usize,
+    sizes: usize,
+    frames: usize,
+    replies: usize,
+    notes: usize,
+    unknown: usize,
+}
+
+/// A lent buffer as a slice. At length 0 its pointer may be NULL, which no slice has.
+unsafe fn lent<'a>(start: *const u8, length: usize) -> &'a [u8] {
+    if length == 0 {
+        return &[];
+    }
+    from_raw_parts(start, length)
+}
+
+unsafe fn lent_mut<'a>(start: *mut u8, length: usize) -> &'a mut [u8] {
+    if length == 0 {
+        return &mut [];
+    }
+    from_raw_parts_mut(start, length)
+}
+
+fn written(by_second: writer::Written) -> Written {
+    Written {
+        number: by_second.number,
+        length: by_second.length,
+    }
+}
+
 #[no_mangle]
 pub unsafe extern "C" fn second_pec(bytes: *const u8, bytes_len: usize) -> u16 {
-    pec::pec(from_raw_parts(bytes, bytes_len))
+    pec::pec(lent(bytes, bytes_len))
 }
 
 #[no_mangle]
@@ -63,16 +106,12 @@ pub unsafe extern "C" fn second_write(
     out: *mut u8,
     out_len: usize,
 ) -> Written {
-    let written = writer::write(
+    written(writer::write(
         n,
         code,
-        from_raw_parts(data, data_len),
-        from_raw_parts_mut(out, out_len),
-    );
-    Written {
-        number: written.number,
-        length: written.length,
-    }
+        lent(data, data_len),
+        lent_mut(out, out_len),
+    ))
 }
 
 #[no_mangle]
@@ -87,9 +126,9 @@ pub unsafe extern "C" fn second_chain(
 ) -> Heard {
     let heard = chain::serve(
         n,
-        from_raw_parts(frame, frame_len),
-        from_raw_parts_mut(state, state_len),
-        from_raw_parts_mut(reply, reply_len),
+        lent(frame, frame_len),
+        lent_mut(state, state_len),
+        lent_mut(reply, reply_len),
     );
     Heard {
         number: heard.number,
@@ -111,9 +150,9 @@ pub unsafe extern "C" fn second_read(
     reader::read(
         n,
         code,
-        from_raw_parts(reply, reply_len),
-        from_raw_parts_mut(data, data_len),
-        from_raw_parts_mut(marks, marks_len),
+        lent(reply, reply_len),
+        lent_mut(data, data_len),
+        lent_mut(marks, marks_len),
     )
 }
 
@@ -124,10 +163,7 @@ pub unsafe extern "C" fn second_cells(
     marks: *const u8,
     marks_len: usize,
 ) -> Readings {
-    let readings = cells::cells(
-        from_raw_parts(groups, groups_len),
-        from_raw_parts(marks, marks_len),
-    );
+    let readings = cells::cells(lent(groups, groups_len), lent(marks, marks_len));
     Readings {
         number: readings.number,
         counts: readings.counts,
@@ -138,22 +174,22 @@ pub unsafe extern "C" fn second_cells(
 
 #[no_mangle]
 pub unsafe extern "C" fn second_tally_add(
-    lent: *mut Tally,
+    record: *mut Tally,
     marks: *const u8,
     marks_len: usize,
 ) -> u8 {
-    let lent = &mut *lent;
+    let record = &mut *record;
     let mut sum = tally::Tally {
-        replies: lent.replies,
-        read: lent.read,
-        wrong: lent.wrong,
-        silent: lent.silent,
+        replies: record.replies,
+        read: record.read,
+        wrong: record.wrong,
+        silent: record.silent,
     };
-    let number = tally::add(&mut sum, from_raw_parts(marks, marks_len));
-    lent.replies = sum.replies;
-    lent.read = sum.read;
-    lent.wrong = sum.wrong;
-    lent.silent = sum.silent;
+    let number = tally::add(&mut sum, lent(marks, marks_len));
+    record.replies = sum.replies;
+    record.read = sum.read;
+    record.wrong = sum.wrong;
+    record.silent = sum.silent;
     number
 }
 
@@ -182,5 +218,48 @@ pub extern "C" fn second_conversion_of(code: u32) -> Conversion {
         discharge: taken.discharge,
         pull_up: taken.pull_up,
         choice: taken.choice,
+    }
+}
+
+#[no_mangle]
+pub unsafe extern "C" fn second_log_put(
+    kind: u32,
+    body: *const u8,
+    body_len: usize,
+    out: *mut u8,
+    out_len: usize,
+) -> Written {
+    written(wirelog::put(
+        kind,
+        lent(body, body_len),
+        lent_mut(out, out_len),
+    ))
+}
+
+#[no_mangle]
+pub unsafe extern "C" fn second_log_at(log: *const u8, log_len: usize, place: usize) -> Record {
+    let found = wirelog::record_at(lent(log, log_len), place);
+    let record = wirelog::Record::from(found);
+    Record {
+        number: record.number,
+        end: record.end,
+        kind: record.kind,
+        body: record.body,
+        body_len: record.body_len,
+        next: record.next,
+    }
+}
+
+#[no_mangle]
+pub unsafe extern "C" fn second_log_walk(log: *const u8, log_len: usize) -> Walk {
+    let walk = wirelog::walk(lent(log, log_len));
+    Walk {
+        number: walk.number,
+        at: walk.at,
+        sizes: walk.sizes,
+        frames: walk.frames,
+        replies: walk.replies,
+        notes: walk.notes,
+        unknown: walk.unknown,
     }
 }

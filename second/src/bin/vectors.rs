@@ -20,6 +20,8 @@ mod reader;
 mod tally;
 #[path = "vectors/wake.rs"]
 mod wake;
+#[path = "vectors/wirelog.rs"]
+mod wirelog;
 #[path = "vectors/writer.rs"]
 mod writer;
 
@@ -30,7 +32,7 @@ use std::process::ExitCode;
 /// The words of a heading and what writes the lines below it.
 type Section = (&'static str, fn(&mut Page));
 
-const SECTIONS: [Section; 10] = [
+const SECTIONS: [Section; 11] = [
     ("check words", check::words),
     ("table entries", check::entries),
     ("commands", commands::section),
@@ -41,6 +43,7 @@ const SECTIONS: [Section; 10] = [
     ("cells", cells::section),
     ("tally", tally::section),
     ("reader", reader::section),
+    ("wire log", wirelog::section),
 ];
 
 fn main() -> ExitCode {

@@ -6,6 +6,7 @@ use second::chain::{self, Heard};
 use second::conversions::{self, Code, Conversion};
 use second::tally::{self, Tally};
 use second::wake::{self, Wait};
+use second::wirelog::{self, Record, Walk};
 use second::writer::{self, Written};
 use second::{pec as plain, reader};
 use std::cell::Cell;
@@ -55,6 +56,25 @@ mod c {
         pub pull_up: u32,
         pub choice: u32,
     }
+    #[repr(C)]
+    pub struct Record {
+        pub number: u8,
+        pub end: u8,
+        pub kind: u32,
+        pub body: usize,
+        pub body_len: usize,
+        pub next: usize,
+    }
+    #[repr(C)]
+    pub struct Walk {
+        pub number: u8,
+        pub at: usize,
+        pub sizes: usize,
+        pub frames: usize,
+        pub replies: usize,
+        pub notes: usize,
+        pub unknown: usize,
+    }
 }
 
 #[rustfmt::skip]
@@ -68,6 +88,9 @@ extern "C" {
     fn rig_wake(n: u32, last: u32, now: u32) -> c::Wait;
     fn rig_conversion_code(command: u32, mode: u32, discharge: u32, pull_up: u32, choice: u32) -> c::Code;
     fn rig_conversion_of(code: u32) -> c::Conversion;
+    fn rig_log_put(kind: u32, body: *const u8, body_len: usize, out: *mut u8, out_len: usize) -> c::Written;
+    fn rig_log_at(log: *const u8, log_len: usize, place: usize) -> c::Record;
+    fn rig_log_walk(log: *const u8, log_len: usize) -> c::Walk;
 }
 
 thread_local! {
@@ -312,6 +335,75 @@ pub fn conversion_of(code: u32) -> Conversion {
     got
 }
 
+pub fn log_put(kind: u32, body: &[u8], out: &mut [u8]) -> Written {
+    count();
+    let (mut from, mut to) = (Lent::new(body), Lent::new(out));
+    let c = unsafe { rig_log_put(kind, from.start(), body.len(), to.start(), out.len()) };
+    let got = Written {
+        number: c.number,
+        length: c.length,
+    };
+    let want = wirelog::put(kind, body, out);
+    assert_eq!(got, want, "put {kind}, out {}, body {body:02X?}", out.len());
+    from.hold(body, "body");
+    to.hold(out, "out");
+    got
+}
+
+/// A log that stays lent, so that many of its places can be asked for.
+pub struct Log<'a> {
+    bytes: &'a [u8],
+    lent: Lent,
+}
+
+impl Log<'_> {
+    pub fn new(bytes: &[u8]) -> Log<'_> {
+        let lent = Lent::new(bytes);
+        Log { bytes, lent }
+    }
+
+    pub fn at(&mut self, place: usize) -> Record {
+        count();
+        let c = unsafe { rig_log_at(self.lent.start(), self.bytes.len(), place) };
+        let got = Record {
+            number: c.number,
+            end: c.end,
+            kind: c.kind,
+            body: c.body,
+            body_len: c.body_len,
+            next: c.next,
+        };
+        let want = Record::from(wirelog::record_at(self.bytes, place));
+        assert_eq!(got, want, "place {place} of {:02X?}", self.bytes);
+        got
+    }
+
+    pub fn walk(&mut self) -> Walk {
+        count();
+        let c = unsafe { rig_log_walk(self.lent.start(), self.bytes.len()) };
+        let got = Walk {
+            number: c.number,
+            at: c.at,
+            sizes: c.sizes,
+            frames: c.frames,
+            replies: c.replies,
+            notes: c.notes,
+            unknown: c.unknown,
+        };
+        let want = wirelog::walk(self.bytes);
+        assert_eq!(got, want, "walk over {:02X?}", self.bytes);
+        got
+    }
+}
+
+impl Drop for Log<'_> {
+    fn drop(&mut self) {
+        if !std::thread::panicking() {
+            self.lent.hold(self.bytes, "log");
+        }
+    }
+}
+
 /// Length 0 at NULL is taken by every entry that takes a length.
 #[test]
 fn nothing_at_null() {
@@ -341,5 +433,11 @@ fn nothing_at_null() {
         );
         assert_eq!(rig_cells(null(), 0, null(), 0).number, 3);
         assert_eq!(rig_tally_add(&mut tally, null(), 0), 1);
+        assert_eq!(rig_log_put(2, null(), 0, null_mut(), 0).number, 5);
+        assert_eq!(rig_log_put(1, null(), 0, null_mut(), 0).number, 11);
+        assert_eq!(rig_log_put(4, null(), 0, [0; 4].as_mut_ptr(), 4).length, 4);
+        assert_eq!(rig_log_at(null(), 0, 0).end, 1);
+        assert_eq!(rig_log_at(null(), 0, usize::MAX).number, 10);
+        assert_eq!(rig_log_walk(null(), 0).number, 0);
     }
 }

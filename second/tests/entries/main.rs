@@ -7,7 +7,10 @@ mod cleared;
 mod conversions;
 mod damage;
 mod random;
+#[path = "../records/mod.rs"]
+mod records;
 mod refusals;
+mod wirelog;
 #[path = "../words/mod.rs"]
 mod words;
 

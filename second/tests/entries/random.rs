@@ -1,6 +1,7 @@
 //! Random cases, long and short, right and damaged. RIG_SEED repeats a run, RIG_CASES says how many.
 
 use crate::beside;
+use crate::records::record;
 use second::commands::{find, Command, Kind, COMMANDS};
 use second::tally::Tally;
 use second::writer;
@@ -242,6 +243,55 @@ fn random_conversion(dice: &mut Dice) {
     beside::conversion_of(dice.roll() as u32);
 }
 
+fn random_put(dice: &mut Dice) {
+    let kind = dice.field(4);
+    let most = match kind {
+        1 => 1,
+        2 | 3 => 132,
+        _ => 200,
+    };
+    let near = if dice.one_in(2) { most } else { 5 };
+    let body = dice.length(near);
+    let out = dice.length(4 + body);
+    let (mut body, mut out) = (dice.bytes(body), dice.bytes(out));
+    if kind == 1 && body.len() == 1 {
+        body[0] = dice.below(18) as u8;
+    }
+    beside::log_put(kind, &body, &mut out);
+}
+
+/// Lawful records laid by hand, with kinds that are not known in between.
+fn some_log(dice: &mut Dice) -> Vec<u8> {
+    let mut log = Vec::new();
+    for _ in 0..dice.below(7) {
+        let kind = dice.below(6) as u16;
+        let length = match kind {
+            1 => 1,
+            0 | 5 => dice.below(300),
+            2 | 3 => dice.below(133),
+            _ => dice.below(201),
+        };
+        let body: Vec<u8> = (0..length).map(|_| 1 + dice.below(16) as u8).collect();
+        log.extend(record(kind, &body));
+    }
+    log
+}
+
+fn random_log(dice: &mut Dice) {
+    random_put(dice);
+    let mut log = some_log(dice);
+    dice.damage(&mut log);
+    if dice.one_in(4) {
+        log.truncate(dice.below(log.len() + 1));
+    }
+    let (near, far) = (dice.below(log.len() + 3), dice.roll() as usize);
+    let mut lent = beside::Log::new(&log);
+    let stopped = lent.walk().at;
+    for place in [0, stopped, near, far, usize::MAX - near] {
+        lent.at(place);
+    }
+}
+
 fn number_of(name: &str, otherwise: u64) -> u64 {
     match env::var(name) {
         Ok(word) => word
@@ -261,13 +311,14 @@ fn random_cases() {
     println!("   random: {cases} cases, RIG_SEED={seed}");
     let mut dice = Dice(seed);
     for case in 1..=cases {
-        match dice.below(7) {
+        match dice.below(8) {
             0 => random_write(&mut dice),
             1 => random_link(&mut dice),
             2 => random_refused_chain(&mut dice),
             3 => random_read(&mut dice),
             4 => random_cells_and_tally(&mut dice),
             5 => random_conversion(&mut dice),
+            6 => random_log(&mut dice),
             _ => random_word_and_wake(&mut dice),
         }
         if case % (cases / 6).max(1) == 0 {
