@@ -32,10 +32,14 @@ class Entry:
                 self.hold(c, f"{self.types.c(kind[3])} *", kind[2] == "mut")
                 texts.append(f"(byte *){name}")
             else:
-                self.hold(c, f"{self.types.c(kind)} ", True)
+                self.hold(c, f"{self.spelled(c.rstrip(), kind)} ", True)
                 texts.append(name)
         self.hold(len(left), 0, True)
         return ", ".join(texts)
+
+    def spelled(self, c, kind):
+        """A type in C; where C has a size_t, MIR has 64 bits."""
+        return "size_t" if (c, kind) == ("size_t", ["tyInt", 64]) else self.types.c(kind)
 
     def hold(self, header, mir, also):
         if header != mir or not also:
@@ -47,7 +51,7 @@ class Entry:
         for (c, name, length), (_, inner) in zip(self.types.given[record_name(kind)][1], self.types.fields(record_name(kind))):
             if length is not None and inner == ["tyArray", ["tyInt", int(c[4:-2])], ["lenLit", length]]:
                 lines.append(f"    for (size_t i = 0; i < {length}; i++) c0.{name}[i] = v0.{name}.e[i];")
-            elif length is None and (c == self.types.c(inner) or (c, inner) == ("size_t", ["tyInt", 64])):
+            elif length is None and c == self.spelled(c, inner):
                 lines.append(f"    c0.{name} = {'(size_t)' if c == 'size_t' else ''}v0.{name};")
             else:
                 raise NoRule(f"the field {name} of {self.result} as", inner)

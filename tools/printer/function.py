@@ -2,10 +2,11 @@
 
 What C leaves undefined and MIR does not is kept out here: arithmetic is done on unsigned numbers of at least 32 bits and cut down
 to MIR's width, so that nothing is done in `int`; a divisor is a constant other than 0; what is copied from behind one address to
-behind another is a number, since C forbids it for larger things that overlap.
+behind another is a number, since C forbids it for larger things that overlap; a variant's fields are read in the arm of a match that
+is for that variant, so that no part of C's union is read but the one that was set.
 """
 from printer.constants import constants, operands, target, through
-from printer.mir import NoRule, chain, head, items, simple, statements
+from printer.mir import NoRule, arms, chain, head, items, simple, statements
 from printer.slices import PARTS, is_slice, names, split, variables
 from printer.types import record_name, symbol
 
@@ -29,7 +30,7 @@ class Function:
         self.tables = {}
         for local, numbers in constants(item, functions).items():
             self.tables[local] = tables.setdefault((types.c(self.kinds[local]), numbers), f"table{len(tables)}")
-        self.live, self.printed = self.read_somewhere(), set()
+        self.live, self.printed, self.matched = self.read_somewhere(), set(), {}
 
     def read_somewhere(self):
         """The variables that a printed statement reads: what only sets another is not printed."""
@@ -42,7 +43,7 @@ class Function:
 
     def reads(self, form, live):
         """The places that a statement reads, if it is printed."""
-        if head(form) == "if":
+        if head(form) in ("if", "switch"):
             return [x[1] for x in [form[1]] if head(x) == "copy"]
         if head(form) not in ("assign", "call") or target(form)[1] in self.tables:
             return []
@@ -65,8 +66,10 @@ class Function:
         local, steps = form[1], items(form[2])
         kind, text = self.kinds[local], self.tables.get(local, f"v{local}")
         self.printed.update(names(form, self.kinds))
+        if steps and self.types.is_enum(kind):
+            return self.field_of_variant(local, steps)
         for step in steps:
-            if step[0] == "deref" and head(kind) in ("tyPtr", "tyRef"):
+            if step[0] == "deref" and head(kind) in ("tyPtr", "tyRef") and not self.types.is_enum(step[1]):
                 kind = step[1]
                 text = f"*{text}" if kind == ["tyInt", 8] else f"(*({self.types.c(kind)} *){text})"
             elif step[0] == "field" and is_slice(kind):
@@ -77,6 +80,16 @@ class Function:
             else:
                 raise NoRule("the step", step)
         return text, kind
+
+    def field_of_variant(self, local, steps):
+        """A field of the variant that the arm of a match is for, as (C, type)."""
+        if [head(step) for step in steps] != ["variant", "field"] or self.matched.get(local) != steps[0][1]:
+            raise NoRule("a part of an enum outside the arm of its variant:", [local, steps])
+        variant, field = steps[0][1], steps[1][1]
+        kinds = self.types.variants(self.kinds[local])[variant]
+        if not 1 <= field <= len(kinds):
+            raise NoRule(f"the field {field} of variant {variant} of", self.kinds[local])
+        return f"v{local}.u.variant{variant}.f{field}", kinds[field - 1]
 
     def operand(self, form):
         """An operand as (C, type)."""
@@ -92,6 +105,8 @@ class Function:
         steps = items(form[2])
         if steps and steps[-1][0] == "deref":  # the address of what lies behind an address is that address
             return self.place(["place", form[1], chain(steps[:-1])])[0]
+        if self.types.is_enum(self.kinds[form[1]]):
+            raise NoRule("the address of an enum", form)
         return f"(byte *)&{self.place(form)[0]}"
 
     # ---- right-hand sides
@@ -137,14 +152,26 @@ class Function:
             return self.unary(*form[1:])
         if form[0] == "addrOf":
             return self.address(form[1])
+        if form[0] == "aggregate" and self.types.is_enum(kind):
+            return self.variant(items(form[1]), kind)
         if form[0] == "aggregate":
             inside = ", ".join(self.operand(x)[0] for x in items(form[1]))
             return f"({self.types.c(kind)}){{{f'{{{inside}}}' if head(kind) == 'tyArray' else inside}}}"
         raise NoRule("the value", form)
 
+    def variant(self, forms, kind):
+        """An enum's value: a tag, which is a constant, and the fields of its variant."""
+        fields = [self.operand(form) for form in forms[1:]]
+        tags = [tag for tag in range(len(self.types.variants(kind))) if forms[:1] == [["int", 8, tag]]]
+        if not tags or self.types.variants(kind)[tags[0]] != [field for _, field in fields]:
+            raise NoRule("a variant that is made of", forms)
+        inside = f", .u.variant{tags[0]} = {{{', '.join(text for text, _ in fields)}}}" if fields else ""
+        return f"({self.types.c(kind)}){{.tag = {tags[0]}u{inside}}}"
+
     # ---- statements
 
     def assign(self, to, value):
+        self.hold_target(to)
         if to[1] in self.tables or not (through(to) or self.live.intersection(names(to, self.kinds))):
             return []
         text, kind = self.place(to)
@@ -159,8 +186,13 @@ class Function:
             raise NoRule("a copy from behind one address to behind another", kind)
         return [f"{text} = {self.value(value, kind)};"]
 
+    def hold_target(self, to):
+        if to[1] in self.matched:
+            raise NoRule("an enum that is set in an arm of its match:", to)
+
     def call(self, form):
         to = form[3]
+        self.hold_target(to)
         if to[1] in self.tables:
             return []
         if through(to):
@@ -182,6 +214,31 @@ class Function:
         lines = [f"if ({test}) {{"] + yes
         return lines + (["} else {"] + no if no else []) + ["}"]
 
+    def match(self, form, around):
+        """A switch on an enum's tag. Each variant has one arm, so that the last needs no test."""
+        local, found = self.tagged(form[1]), arms(form[2])
+        if sorted(keys for keys, _ in found) != [[k] for k in range(len(self.types.variants(self.kinds[local])))]:
+            raise NoRule("a match whose arms are for", [keys for keys, _ in found])
+        self.printed.add(f"v{local}")
+        lines, ((last,), rest) = [], found.pop()
+        for (key,), body in found:
+            lines.append(f"{'} else ' if lines else ''}if (v{local}.tag == {key}u) {{")
+            lines += self.arm(local, key, body, around)
+        return lines + [f"}} else {{ /* v{local}.tag == {last}u */"] + self.arm(local, last, rest, around) + ["}"]
+
+    def tagged(self, form):
+        """The enum whose tag an operand is: a local."""
+        if head(form) == "copy" and items(form[1][2]) == [["variant", 0], ["field", 0]] and self.types.is_enum(self.kinds[form[1][1]]):
+            return form[1][1]
+        raise NoRule("a switch on", form)
+
+    def arm(self, local, variant, body, around):
+        """The body of an arm, indented: in it an enum is of one variant."""
+        outside, self.matched = self.matched, {**self.matched, local: variant}
+        lines = self.block(body, around)
+        self.matched = outside
+        return lines
+
     def leave(self, count, around):
         """`exit`: of a block out of it, of a loop round again; C has `break` for the block just around the innermost loop."""
         if around[-1:] == ["loop"] and count == 0:
@@ -200,6 +257,8 @@ class Function:
             return ["return;" if self.kinds[0] == "tyUnit" else "return v0;"]
         if word == "if":
             return self.choice(form, around)
+        if word == "switch":
+            return self.match(form, around)
         if word == "block" and [head(x) for x in statements(form[1])] == ["loop"]:
             return self.statement(form[1], around + ["block"])
         if word == "loop":

@@ -5,12 +5,12 @@ A form is a word with its arguments: `(place 3 lnil)` is ["place", 3, "lnil"], a
 import re
 
 ARGUMENTS = {
-    0: "skip return true false unit tyBool tyPtr tyUnit lnil tnil imm mut erased unsigned valueLocal memorySlot"
-    " and or xor not eq ne shl offset",
-    1: "tyInt tyNamed lenLit named deref field copy add sub mul div rem shr lt le rvOpd addrOf aggregate block loop exit"
-    " direct fnRef fields",
-    2: "lcons tcons local tyArray tyStruct pair place int op1 repeat seq assign",
-    3: "tyRef cast op2 if call",
+    0: "skip return true false unit tyBool tyPtr tyUnit lnil tnil ttnil imm mut erased unsigned valueLocal memorySlot"
+    " noDefault and or xor not eq ne shl offset",
+    1: "tyInt tyNamed lenLit named deref field variant copy add sub mul div rem shr lt le rvOpd addrOf aggregate block loop exit"
+    " direct fnRef fields variants",
+    2: "lcons tcons ttcons local tyArray tyStruct pair place int op1 repeat seq assign switch",
+    3: "tyRef cast op2 if call arm",
     5: "fnItem",
 }
 KNOWN = {word: count for count, words in ARGUMENTS.items() for word in words.split()}
@@ -49,10 +49,10 @@ def head(form):
 def items(form):
     """A list of the MIR as a list."""
     out = []
-    while head(form) in ("lcons", "tcons"):
+    while head(form) in ("lcons", "tcons", "ttcons"):
         out.append(form[1])
         form = form[2]
-    if form not in ("lnil", "tnil"):
+    if form not in ("lnil", "tnil", "ttnil"):
         raise NoRule("a list that ends in", form)
     return out
 
@@ -71,8 +71,19 @@ def statements(body):
     return [] if body == "skip" else [body]
 
 
+def arms(form):
+    """The arms of a switch that has no default: [(keys, body)]."""
+    out = []
+    while head(form) == "arm":
+        out.append((items(form[1]), form[2]))
+        form = form[3]
+    if form != "noDefault":
+        raise NoRule("a switch that ends in", form)
+    return out
+
+
 def simple(body):
-    """Every statement of a body with no statement in it, and the tests of its ifs."""
+    """Every statement of a body with no statement in it, and the tests of its ifs and switches."""
     for form in statements(body):
         if head(form) in ("block", "loop"):
             yield from simple(form[1])
@@ -81,6 +92,9 @@ def simple(body):
         if head(form) == "if":
             yield from simple(form[2])
             yield from simple(form[3])
+        if head(form) == "switch":
+            for _, arm in arms(form[2]):
+                yield from simple(arm)
 
 
 def check(form):
@@ -97,17 +111,17 @@ def check(form):
 
 
 def program(text):
-    """Functions and records of a printed MIR: {name: fnItem}, {name: its fields' types}."""
+    """Functions and named types of a printed MIR: {name: fnItem}, {name: its fields or variants}."""
     forms = read(text)
     if forms[:1] != ["program"]:
         raise NoRule("text that is no program")
-    functions, records = {}, {}
+    functions, shapes = {}, {}
     for form in items(forms[1]):
-        if head(form) != "fn-def" or head(form[2]) != "fnItem" or form[1] in functions:
+        if head(form) != "fn-def" or head(form[2]) != "fnItem" or form[1].strip('"') in functions:
             raise NoRule("the definition", form)
         functions[form[1].strip('"')] = form[2]
         for row in items(form[3]) if len(form) > 3 else []:
             check(row)
-            if records.setdefault(row[1], row[2]) != row[2]:
+            if shapes.setdefault(row[1].strip('"'), row[2]) != row[2]:
                 raise NoRule("two meanings of", row[1])
-    return functions, {name.strip('"'): items(shape[1]) for name, shape in records.items()}
+    return functions, shapes

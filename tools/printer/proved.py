@@ -31,7 +31,7 @@ def kind(form):
     if key == "Ref":
         return ["tyRef", lifetime(inside[0]), word(inside[1]), kind(inside[2])]
     if key == "Struct":
-        return ["tyStruct", name(inside[0]), chain([kind(x) for x in inside[1]], "tcons", "tnil")]
+        return ["tyStruct", name(inside[0]), kinds(inside[1])]
     raise NoRule("a proved type", form)
 
 
@@ -87,6 +87,8 @@ def body(forms):
     key, inside = one(form)
     if key == "If":
         return ["if", operand(inside), body(forms), body(forms)]
+    if key == "Switch":
+        return switch(inside, forms)
     if key == "Exit":
         return ["exit", inside]
     if key == "Assign":
@@ -96,15 +98,42 @@ def body(forms):
     raise NoRule("a proved statement", form)
 
 
+def switch(inside, forms):
+    """A switch has its keys before the bodies of its arms."""
+    test, keys, default = inside
+    if default:
+        raise NoRule("a proved switch with a default", test)
+    arms = [(chain(key), body(forms)) for key in keys]
+    form = "noDefault"
+    for key, arm in reversed(arms):
+        form = ["arm", key, arm, form]
+    return ["switch", operand(test), form]
+
+
 def local(form):
     return ["local", kind(form["ty"]), word(form["home"])]
 
 
+def kinds(forms):
+    return chain([kind(x) for x in forms], "tcons", "tnil")
+
+
+def shape(form):
+    """The fields of a record, or the variants of an enum."""
+    key, inside = one(form)
+    if key == "Fields":
+        return ["fields", kinds(inside)]
+    if key == "Variants":
+        return ["variants", chain([kinds(x) for x in inside], "ttcons", "ttnil")]
+    raise NoRule("a proved shape", form)
+
+
 def functions(rlib, wanted):
-    """Those of the wanted functions that a proved crate has: {name: fnItem}."""
-    found = {}
+    """Those of the wanted functions that a proved crate has, and the named types that they have: {name: fnItem}, {name: shape}."""
+    found, shapes = {}, {}
     for title, form in json.loads((rlib / "toolchain/mir.json").read_text()):
         if title in wanted:
             parts = [chain(form["outlives"]), form["params"], chain([local(x) for x in form["locals"]]), body(list(form["body"]))]
             found[title] = ["fnItem", form["lifetimes"]] + parts
-    return found
+            shapes.update((row["name"], shape(row["shape"])) for row in form["types"])
+    return found, shapes

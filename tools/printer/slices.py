@@ -42,7 +42,7 @@ def split(body, kinds):
     word = head(body)
     if word in ("seq", "block", "loop"):
         return [word] + [split(part, kinds) for part in body[1:]]
-    if word == "if":
+    if word in ("if", "switch", "arm"):
         return body[:2] + [split(part, kinds) for part in body[2:]]
     if word == "assign" and body[1][2] == "lnil" and is_slice(kinds[body[1][1]]):
         local = body[1][1]
