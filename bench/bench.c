@@ -29,19 +29,22 @@ struct maker {
     uint8_t (*tally_add)(struct rig_tally *, const uint8_t *, size_t);
     struct rig_code (*conversion_code)(uint32_t, uint32_t, uint32_t, uint32_t, uint32_t);
     struct rig_conversion (*conversion_of)(uint32_t);
+    struct rig_written (*log_put)(uint32_t, const uint8_t *, size_t, uint8_t *, size_t);
+    struct rig_record (*log_at)(const uint8_t *, size_t, size_t);
+    struct rig_walk (*log_walk)(const uint8_t *, size_t);
 };
 
 enum { ARCHIVE, PRINTED, PLAIN, SECOND };
 
 static const struct maker makers[MAKERS] = {
     {"archive", rig_pec, rig_write, rig_chain, rig_read, rig_cells, rig_tally_add,
-     rig_conversion_code, rig_conversion_of},
+     rig_conversion_code, rig_conversion_of, rig_log_put, rig_log_at, rig_log_walk},
     {"printed", printed_pec, printed_write, printed_chain, printed_read, printed_cells, printed_tally_add,
-     printed_conversion_code, printed_conversion_of},
+     printed_conversion_code, printed_conversion_of, printed_log_put, printed_log_at, printed_log_walk},
     {"plain", plain_pec, plain_write, plain_chain, plain_read, plain_cells, plain_tally_add,
-     plain_conversion_code, plain_conversion_of},
+     plain_conversion_code, plain_conversion_of, plain_log_put, plain_log_at, plain_log_walk},
     {"second", second_pec, second_write, second_chain, second_read, second_cells, second_tally_add,
-     second_conversion_code, second_conversion_of},
+     second_conversion_code, second_conversion_of, second_log_put, second_log_at, second_log_walk},
 };
 
 static const uint32_t writes[6] = {RIG_WRCFGA, RIG_WRCFGB, RIG_WRCOMM, RIG_WRSCTRL, RIG_WRPWM, RIG_WRPSB};
@@ -54,6 +57,8 @@ static struct {
     struct rig_conversion conversions[SETS];
     uint32_t codes[SETS];
     uint8_t write_frames[6][132], read_frames[6][132], replies[6][132];
+    uint8_t log[SETS * RIG_LOG_BYTES(132)];
+    size_t log_len, places[SETS];
 } in;
 
 /* What comes out, and what a call changes. */
@@ -62,6 +67,9 @@ static struct work {
     struct rig_tally tally;
     struct rig_readings readings;
     struct rig_conversion conversion;
+    uint8_t put[RIG_LOG_BYTES(132)];
+    struct rig_record record;
+    struct rig_walk walk;
     uint32_t sum;
 } work;
 
@@ -139,6 +147,34 @@ static void turn_conversion_of(const struct maker *m, uint32_t n, size_t turns)
     }
 }
 
+/* For a record n is the count of the body's bytes. */
+static void turn_log_put(const struct maker *m, uint32_t n, size_t turns)
+{
+    for (size_t i = 0; i < turns; i++) {
+        struct rig_written w = m->log_put(RIG_LOG_FRAME, in.bytes + 96 * (i % SETS), n, work.put, sizeof work.put);
+        work.sum += w.number + (uint32_t)w.length;
+    }
+}
+
+static void turn_log_at(const struct maker *m, uint32_t n, size_t turns)
+{
+    (void)n;
+    for (size_t i = 0; i < turns; i++) {
+        work.record = m->log_at(in.log, in.log_len, in.places[i % SETS]);
+        work.sum += work.record.number;
+    }
+}
+
+/* The whole log, and all but its last record, by turns. */
+static void turn_log_walk(const struct maker *m, uint32_t n, size_t turns)
+{
+    (void)n;
+    for (size_t i = 0; i < turns; i++) {
+        work.walk = m->log_walk(in.log, i % 2 ? in.places[SETS - 1] : in.log_len);
+        work.sum += work.walk.number;
+    }
+}
+
 static const struct row {
     const char *name;
     turn_fn *turn;
@@ -161,6 +197,9 @@ static const struct row {
     {"tally, N = 16", turn_tally, 16, 1.1, 0},
     {"conversion code", turn_conversion_code, 1, 0, 0},
     {"conversion of a code", turn_conversion_of, 1, 0, 0},
+    {"log a frame of 132", turn_log_put, 132, 0, 0},
+    {"record at a place", turn_log_at, 1, 0, 0},
+    {"walk of 64 records", turn_log_walk, 1, 0, 0},
 };
 
 enum { ROWS = sizeof rows / sizeof *rows };
@@ -186,6 +225,20 @@ static void make_conversions(void)
     }
 }
 
+/* A log as a controller writes it: frames and replies by turns, now and then a chain size, a note, or a kind that is not known. */
+static void make_log(void)
+{
+    static const uint8_t sixteen = 16;
+
+    for (size_t i = 0; i < SETS; i++) {
+        uint32_t kind = i % 16 == 0 ? RIG_LOG_SIZE : i % 16 == 1 ? RIG_LOG_NOTE : 2 + i % 2;
+        const uint8_t *body = kind == RIG_LOG_SIZE ? &sixteen : in.bytes + 96 * i;
+        in.places[i] = in.log_len;
+        in.log_len += plain_log_put(kind, body, kind == RIG_LOG_SIZE ? 1 : 132, in.log + in.log_len, sizeof in.log - in.log_len).length;
+    }
+    in.log[in.places[SETS / 2] + 3] = 1; /* kind 257 */
+}
+
 /* Of the cells that turn_cells reads about one in eight becomes 0xFFFF, which is not measured: bytes at random hardly ever hold it. */
 static void clear_some_cells(void)
 {
@@ -203,6 +256,7 @@ static void make_inputs(void)
         for (size_t k = 0; k < 16; k++)
             in.marks[i][k] = (uint8_t)(random_byte() % 8 ? 0 : 1 + random_byte() % 2);
     make_conversions();
+    make_log();
     clear_some_cells();
 }
 
@@ -240,12 +294,26 @@ static int same_conversion(const struct rig_conversion *a, const struct rig_conv
            a->pull_up == b->pull_up && a->choice == b->choice;
 }
 
+static int same_record(const struct rig_record *a, const struct rig_record *b)
+{
+    return a->number == b->number && a->end == b->end && a->kind == b->kind && a->body == b->body && a->body_len == b->body_len &&
+           a->next == b->next;
+}
+
+static int same_walk(const struct rig_walk *a, const struct rig_walk *b)
+{
+    return a->number == b->number && a->at == b->at && a->sizes == b->sizes && a->frames == b->frames && a->replies == b->replies &&
+           a->notes == b->notes && a->unknown == b->unknown;
+}
+
 static int same_work(const struct work *a, const struct work *b)
 {
     return !memcmp(a->state, b->state, sizeof a->state) && !memcmp(a->out, b->out, sizeof a->out) &&
            !memcmp(a->reply, b->reply, sizeof a->reply) && !memcmp(a->data, b->data, sizeof a->data) &&
            !memcmp(a->marks, b->marks, sizeof a->marks) && same_readings(&a->readings, &b->readings) &&
-           same_tally(&a->tally, &b->tally) && same_conversion(&a->conversion, &b->conversion) && a->sum == b->sum;
+           same_tally(&a->tally, &b->tally) && same_conversion(&a->conversion, &b->conversion) &&
+           !memcmp(a->put, b->put, sizeof a->put) && same_record(&a->record, &b->record) && same_walk(&a->walk, &b->walk) &&
+           a->sum == b->sum;
 }
 
 /* Every maker gives the same on the inputs that are timed, after each count of turns up to SETS. */

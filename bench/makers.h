@@ -16,7 +16,10 @@
     uint8_t name##_tally_add(struct rig_tally *tally, const uint8_t *marks, size_t marks_len);                                    \
     struct rig_code name##_conversion_code(uint32_t command, uint32_t mode, uint32_t discharge, uint32_t pull_up,                 \
                                            uint32_t choice);                                                                      \
-    struct rig_conversion name##_conversion_of(uint32_t code)
+    struct rig_conversion name##_conversion_of(uint32_t code);                                                                    \
+    struct rig_written name##_log_put(uint32_t kind, const uint8_t *body, size_t body_len, uint8_t *out, size_t out_len);         \
+    struct rig_record name##_log_at(const uint8_t *log, size_t log_len, size_t place);                                            \
+    struct rig_walk name##_log_walk(const uint8_t *log, size_t log_len)
 
 MAKER(plain);
 MAKER(printed);

@@ -324,3 +324,77 @@ uint8_t plain_tally_add(struct rig_tally *tally, const uint8_t *marks, size_t ma
     tally->silent += sorts[2];
     return 0;
 }
+
+static const size_t longest[5] = {0, 1, 132, 132, 200};
+
+/* Whether a body is within the limits of its kind, 1 to 4. */
+static int within(uint32_t kind, const uint8_t *body, size_t body_len)
+{
+    return body_len <= longest[kind] && (kind != 1 || (body_len == 1 && body[0] >= 1 && body[0] <= 16));
+}
+
+struct rig_written plain_log_put(uint32_t kind, const uint8_t *body, size_t body_len, uint8_t *out, size_t out_len)
+{
+    struct rig_written w = {11, 0};
+
+    if (kind < 1 || kind > 4 || !within(kind, body, body_len))
+        return w;
+    if (out_len < 4 + body_len) {
+        w.number = 5;
+        return w;
+    }
+    out[0] = (uint8_t)(2 + body_len);
+    out[1] = (uint8_t)((2 + body_len) >> 8);
+    out[2] = (uint8_t)kind;
+    out[3] = 0;
+    if (body_len > 0)
+        memcpy(out + 4, body, body_len);
+    w.number = 0;
+    w.length = 4 + body_len;
+    return w;
+}
+
+struct rig_record plain_log_at(const uint8_t *log, size_t log_len, size_t place)
+{
+    struct rig_record r = {0, 0, 0, 0, 0, 0}, refused = {10, 0, 0, 0, 0, 0};
+
+    if (place == log_len) {
+        r.end = 1;
+        return r;
+    }
+    if (place > log_len || log_len - place < 4)
+        return refused;
+    size_t length = (size_t)(log[place] | log[place + 1] << 8);
+    if (length < 2 || log_len - place - 2 < length)
+        return refused;
+    r.kind = (uint32_t)(log[place + 2] | log[place + 3] << 8);
+    r.next = place + 2 + length;
+    if (r.kind >= 1 && r.kind <= 4) {
+        r.body = place + 4;
+        r.body_len = length - 2;
+        refused.number = 11;
+        if (!within(r.kind, log + r.body, r.body_len))
+            return refused;
+    }
+    return r;
+}
+
+struct rig_walk plain_log_walk(const uint8_t *log, size_t log_len)
+{
+    struct rig_walk w = {0, 0, 0, 0, 0, 0, 0};
+
+    for (;;) {
+        struct rig_record r = plain_log_at(log, log_len, w.at);
+        w.number = r.number;
+        if (r.number != 0 || r.end)
+            return w;
+        switch (r.kind) {
+        case 1: w.sizes++; break;
+        case 2: w.frames++; break;
+        case 3: w.replies++; break;
+        case 4: w.notes++; break;
+        default: w.unknown++;
+        }
+        w.at = r.next;
+    }
+}

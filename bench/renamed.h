@@ -11,5 +11,8 @@
 #define rig_wake printed_wake
 #define rig_conversion_code printed_conversion_code
 #define rig_conversion_of printed_conversion_of
+#define rig_log_put printed_log_put
+#define rig_log_at printed_log_at
+#define rig_log_walk printed_log_walk
 
 #endif

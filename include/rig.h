@@ -1,6 +1,6 @@
 /* rig.h: the chain rig in C. A model of 1 to 16 LTC6813-1 cell monitors on one pair of wires, and the host side of a
- * controller that polls them: check word, conversion codes, frame writer, reply reader, cell readings, link tally and wake
- * rule.
+ * controller that polls them: check word, conversion codes, frame writer, reply reader, cell readings, link tally, wake rule
+ * and wire log.
  *
  * Every entry is proved, for all inputs, to give the number, the values and the lent bytes that its page below states. It
  * never allocates, keeps nothing between calls, and needs under 2 KB of stack; two threads may call it at once, each on
@@ -16,6 +16,7 @@
  *   number   what a call came to: 0 is done, any other is a refusal (RIG_DONE and on)
  *   mark     what became of one device's group in a reply: read, wrong or silent (RIG_MARK_READ and on)
  *   state    the registers of all devices: device k has 18 groups of six bytes, group g at 108 * (k - 1) + 6 * g
+ *   log      what passed, as a row of records: kind and body, by their length, one after the other (rig_log_put)
  *   lent     memory of the caller's that an entry reads or fills; host data is always in device order, device k at 6 * (k - 1)
  *
  * WHAT C MUST KEEP, for every entry. Nothing checks it, and nothing is promised where it is broken.
@@ -52,6 +53,8 @@ extern "C" {
 #define RIG_NO_READ 7         /* the command is no read */
 #define RIG_TALLY_FULL 8      /* a count of the tally would pass 4,294,967,295 */
 #define RIG_OUT_OF_RANGE 9    /* a conversion command or one of its fields is out of its range */
+#define RIG_LOG_BROKEN 10     /* a place past the log's end, a record cut short, or a length below 2 */
+#define RIG_LOG_LIMITS 11     /* a record's body is outside its kind's limits; of rig_log_put, also an unknown kind */
 
 /* ---- Marks: what became of one device's group in a reply ---------------------------------------------------------- */
 
@@ -59,6 +62,13 @@ extern "C" {
                            * of the frame, the six bytes are then the device's */
 #define RIG_MARK_WRONG 1  /* its check word is wrong */
 #define RIG_MARK_SILENT 2 /* eight bytes 0xFF, as on a line that no device drives */
+
+/* ---- Kinds of a log's records --------------------------------------------------------------------------------------- */
+
+#define RIG_LOG_SIZE 1  /* the chain size: one byte, 1 to 16 */
+#define RIG_LOG_FRAME 2 /* a frame out: 0 to 132 bytes */
+#define RIG_LOG_REPLY 3 /* a reply: 0 to 132 bytes */
+#define RIG_LOG_NOTE 4  /* a free note: 0 to 200 bytes */
 
 /* ---- Sizes ------------------------------------------------------------------------------------------------------- */
 
@@ -70,6 +80,7 @@ extern "C" {
 #define RIG_DATA_BYTES(n) ((size_t)6 * (n))      /* host data of a write or read, for n devices */
 #define RIG_FRAME_BYTES(n) ((size_t)4 + (size_t)8 * (n)) /* the frame of a write or read, and its reply */
 #define RIG_STATE_BYTES(n) ((size_t)108 * (n))   /* the state of n devices */
+#define RIG_LOG_BYTES(body) ((size_t)4 + (body)) /* the record of a body of so many bytes */
 
 /* ---- Register groups --------------------------------------------------------------------------------------------- */
 
@@ -143,7 +154,7 @@ extern "C" {
 
 struct rig_written {
     uint8_t number;
-    size_t length; /* bytes of the frame; 0 on refusal */
+    size_t length; /* bytes of the frame or of the record; 0 on refusal */
 };
 
 struct rig_heard {
@@ -182,6 +193,25 @@ struct rig_conversion {
     uint32_t discharge;
     uint32_t pull_up;
     uint32_t choice;
+};
+
+struct rig_record {
+    uint8_t number;
+    uint8_t end;     /* 1 at the log's end, and every other field 0; otherwise 0 */
+    uint32_t kind;   /* RIG_LOG_SIZE to RIG_LOG_NOTE, or a kind that is not known; this and the rest 0 on refusal */
+    size_t body;     /* where the body lies, counted from the log's start; this and body_len 0 of a kind that is not known */
+    size_t body_len;
+    size_t next;     /* the place of what follows */
+};
+
+struct rig_walk {
+    uint8_t number;
+    size_t at;      /* where the walk stopped: the log's end, or the place of the record at fault */
+    size_t sizes;   /* how many records of each kind stand before it */
+    size_t frames;
+    size_t replies;
+    size_t notes;
+    size_t unknown;
 };
 
 /* Examples follow one another: a later one uses what an earlier one has. */
@@ -352,6 +382,54 @@ struct rig_code rig_conversion_code(uint32_t command, uint32_t mode, uint32_t di
  */
 struct rig_conversion rig_conversion_of(uint32_t code);
 
+/* ---- rig_log_put: the record of what passed --------------------------------------------------------------------------------
+ * Lays a record over the start of `out`: two bytes length, counting kind and body, two bytes kind, both low byte first, and the
+ * body. A log is its records one after the other, with nothing before, between or after them.
+ *   kind             RIG_LOG_SIZE to RIG_LOG_NOTE
+ *   body, body_len   within the limits of its kind
+ *   out, out_len     at least RIG_LOG_BYTES(body_len)
+ * Number, the first that applies:
+ *   RIG_LOG_LIMITS     kind is not 1 to 4, or the body is outside its kind's limits
+ *   RIG_OUTPUT_SHORT   out is shorter than the record
+ *   RIG_DONE           length bytes of out, which is RIG_LOG_BYTES(body_len), are the record; the rest is untouched
+ * On refusal length is 0 and out is untouched. body is only read.
+ *
+ *     uint8_t log[RIG_LOG_BYTES(1) + RIG_LOG_BYTES(132)], devices = 16;
+ *     struct rig_written size = rig_log_put(RIG_LOG_SIZE, &devices, 1, log, sizeof log);
+ *     struct rig_written sent = rig_log_put(RIG_LOG_FRAME, frame, 132, log + size.length, sizeof log - size.length);
+ */
+struct rig_written rig_log_put(uint32_t kind, const uint8_t *body, size_t body_len, uint8_t *out, size_t out_len);
+
+/* ---- rig_log_at: the record at a place of a log ------------------------------------------------------------------------------
+ * Reads one record. It undoes rig_log_put, in the middle of any log. The next record is at `next`, which is always past
+ * `place`, so a loop over a log ends.
+ *   log, log_len   any bytes
+ *   place          where the record starts: 0, then the `next` of the record before
+ * Number, the first that applies:
+ *   RIG_LOG_BROKEN   place is past log_len, or a record starts there that ends past log_len, or its length is below 2
+ *   RIG_LOG_LIMITS   kind is 1 to 4 and the body is outside its limits
+ *   RIG_DONE         at log_len: end is 1, and every other field is 0. Before it: kind, body, body_len and next. Of a kind that is
+ *                    not 1 to 4 only kind and next: what its body means is not known here, and body and body_len are 0
+ * On refusal every field but the number is 0. log is only read.
+ *
+ *     struct rig_record seen = rig_log_at(log, sizeof log, size.length);
+ *     if (seen.number == RIG_DONE && seen.kind == RIG_LOG_FRAME) show_frame(log + seen.body, seen.body_len);
+ */
+struct rig_record rig_log_at(const uint8_t *log, size_t log_len, size_t place);
+
+/* ---- rig_log_walk: a whole log ---------------------------------------------------------------------------------------------
+ * Reads record after record from place 0 until the end or a refusal, and counts them by kind.
+ *   log, log_len   any bytes
+ * Number:
+ *   RIG_LOG_BROKEN   the record at `at` is cut short, or its length is below 2
+ *   RIG_LOG_LIMITS   the record at `at` has a body outside its kind's limits
+ *   RIG_DONE         `at` is log_len: the log is whole
+ * The counts are of the records before `at`, also on refusal. log is only read.
+ *
+ *     struct rig_walk whole = rig_log_walk(log, sizeof log);  // one size, one frame
+ */
+struct rig_walk rig_log_walk(const uint8_t *log, size_t log_len);
+
 #ifdef __cplusplus
 }
 #endif
@@ -394,6 +472,21 @@ RIG_ASSERT(offsetof(struct rig_conversion, mode) == 8, "rig.h: rig_conversion.mo
 RIG_ASSERT(offsetof(struct rig_conversion, discharge) == 12, "rig.h: rig_conversion.discharge lies elsewhere");
 RIG_ASSERT(offsetof(struct rig_conversion, pull_up) == 16, "rig.h: rig_conversion.pull_up lies elsewhere");
 RIG_ASSERT(offsetof(struct rig_conversion, choice) == 20, "rig.h: rig_conversion.choice lies elsewhere");
+RIG_ASSERT(sizeof(struct rig_record) == 8 + 3 * sizeof(size_t), "rig.h: struct rig_record has another size");
+RIG_ASSERT(offsetof(struct rig_record, number) == 0, "rig.h: rig_record.number lies elsewhere");
+RIG_ASSERT(offsetof(struct rig_record, end) == 1, "rig.h: rig_record.end lies elsewhere");
+RIG_ASSERT(offsetof(struct rig_record, kind) == 4, "rig.h: rig_record.kind lies elsewhere");
+RIG_ASSERT(offsetof(struct rig_record, body) == 8, "rig.h: rig_record.body lies elsewhere");
+RIG_ASSERT(offsetof(struct rig_record, body_len) == 8 + sizeof(size_t), "rig.h: rig_record.body_len lies elsewhere");
+RIG_ASSERT(offsetof(struct rig_record, next) == 8 + 2 * sizeof(size_t), "rig.h: rig_record.next lies elsewhere");
+RIG_ASSERT(sizeof(struct rig_walk) == 7 * sizeof(size_t), "rig.h: struct rig_walk has another size");
+RIG_ASSERT(offsetof(struct rig_walk, number) == 0, "rig.h: rig_walk.number lies elsewhere");
+RIG_ASSERT(offsetof(struct rig_walk, at) == sizeof(size_t), "rig.h: rig_walk.at lies elsewhere");
+RIG_ASSERT(offsetof(struct rig_walk, sizes) == 2 * sizeof(size_t), "rig.h: rig_walk.sizes lies elsewhere");
+RIG_ASSERT(offsetof(struct rig_walk, frames) == 3 * sizeof(size_t), "rig.h: rig_walk.frames lies elsewhere");
+RIG_ASSERT(offsetof(struct rig_walk, replies) == 4 * sizeof(size_t), "rig.h: rig_walk.replies lies elsewhere");
+RIG_ASSERT(offsetof(struct rig_walk, notes) == 5 * sizeof(size_t), "rig.h: rig_walk.notes lies elsewhere");
+RIG_ASSERT(offsetof(struct rig_walk, unknown) == 6 * sizeof(size_t), "rig.h: rig_walk.unknown lies elsewhere");
 #undef RIG_ASSERT
 #endif
 

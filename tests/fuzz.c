@@ -1,8 +1,8 @@
 /* fuzz.c: a libFuzzer target over the C entries. The archive is not instrumented, so each lent buffer stands flush against
  * an inaccessible page, first at its end, then at its start: one byte read or written outside it traps. Every answer and all
- * exit contents are held to the plain ones, and those of check word, writer, chain, reader, cells and conversion codes to second/
- * (with -DNO_SECOND not, for a target that Rust is not built for). The fuzzer's bytes choose the entry, sizes, lengths, contents
- * and damage.
+ * exit contents are held to the plain ones, and those of check word, writer, chain, reader, cells, conversion codes and log to
+ * second/ (with -DNO_SECOND not, for a target that Rust is not built for). The fuzzer's bytes choose the entry, sizes, lengths,
+ * contents and damage.
  *
  *     make fuzz                as long as one likes
  *     make fuzz FUZZ=-runs=N   N inputs
@@ -389,10 +389,119 @@ static void fuzz_conversion_of(struct input *in) {
 #endif
 }
 
+/* ---- the log ---- */
+
+/* Mostly a kind that there is. */
+static uint32_t next_kind(struct input *in) {
+    uint8_t byte = next(in);
+    return byte < 220 ? 1u + byte % 4 : byte < 240 ? byte % 8u : next_word(in) >> (byte % 4 * 8);
+}
+
+/* A body for the kind, mostly within its limits; its length. */
+static size_t next_body(struct input *in, uint32_t kind, uint8_t *body) {
+    size_t most = kind == RIG_LOG_SIZE ? 1 : kind == RIG_LOG_NOTE ? 200 : 132;
+    size_t length = kind != RIG_LOG_SIZE && next(in) % 2 ? next(in) % (most + 1) : next_length(in, most);
+    next_bytes(in, body, length);
+    if (kind == RIG_LOG_SIZE && length > 0 && body[0] < 224) {
+        body[0] = (uint8_t)(1 + body[0] % 16);
+    }
+    return length;
+}
+
+static void fuzz_log_put(struct input *in) {
+    uint8_t body[256], out[320], then[320];
+    uint32_t kind = next_kind(in);
+    size_t body_len = next_body(in, kind, body), out_len = next_length(in, RIG_LOG_BYTES(body_len));
+    uint8_t number = plain_put_number(kind, body, body_len, out_len);
+    memset(out, next(in), sizeof out);
+    memcpy(then, out, sizeof out);
+    size_t length = number == RIG_DONE ? plain_put(kind, body, body_len, then) : 0;
+#ifndef NO_SECOND
+    uint8_t by_second[320];
+    memcpy(by_second, out, sizeof out);
+    struct rig_written second = second_log_put(kind, body, body_len, by_second, out_len);
+    hold(second.number == number && second.length == length && has(by_second, then, out_len), "second/ logs otherwise");
+#endif
+    for (enum side side = AT_END; side < SIDES; side++) {
+        uint8_t *from = lend(0, side, body, body_len), *to = lend(1, side, out, out_len);
+        struct rig_written got = rig_log_put(kind, from, body_len, to, out_len);
+        hold(got.number == number && got.length == length, "the log writer's answer is another");
+        hold(has(to, then, out_len), "the log writer's record is another");
+        hold(has(from, body, body_len), "the log writer changed the body");
+    }
+}
+
+/* Records one after the other, then up to three bytes changed and some cut off; or any bytes. */
+static size_t next_log(struct input *in, uint8_t *log) {
+    uint8_t body[256], choice = next(in);
+    size_t length = 0;
+    if (choice >= 200) {
+        length = in->left < ROOM ? in->left : ROOM;
+        next_bytes(in, log, length);
+        return length;
+    }
+    for (unsigned records = choice % 12; records > 0; records--) {
+        uint32_t kind = next_kind(in) % 65536;
+        size_t body_len = next_body(in, kind, body);
+        length += plain_put(kind, body, body_len, log + length);
+    }
+    for (unsigned hits = length == 0 ? 0 : choice / 12 % 4; hits > 0; hits--) {
+        log[next_word(in) % length] ^= next(in);
+    }
+    size_t cut = next(in);
+    return cut < 200 ? length : length - (cut - 199 < length ? cut - 199 : length);
+}
+
+/* Places of the log and a little past it, or any. */
+static size_t next_place(struct input *in, size_t length) {
+    uint8_t byte = next(in);
+    return byte < 232 ? next_word(in) % (length + 6) : byte < 244 ? SIZE_MAX - (byte - 232u) : next_word(in) * ((size_t)UINT32_MAX + 2);
+}
+
+/* The record at a place, alike by every reader. */
+static struct rig_record hold_record(const uint8_t *lent, const uint8_t *log, size_t length, size_t place) {
+    struct rig_record then = plain_record(log, length, place);
+    hold(same_record(rig_log_at(lent, length, place), then), "the record at a place is another");
+#ifndef NO_SECOND
+    hold(same_record(second_log_at(log, length, place), then), "second/ has another record at a place");
+#endif
+    return then;
+}
+
+/* The record at a place, and at each place that a walk comes to. */
+static void fuzz_log_at(struct input *in) {
+    static uint8_t log[ROOM];
+    size_t length = next_log(in, log), place = next_place(in, length);
+    for (enum side side = AT_END; side < SIDES; side++) {
+        uint8_t *from = lend(0, side, log, length);
+        hold_record(from, log, length, place);
+        struct rig_record at = hold_record(from, log, length, 0);
+        while (at.number == RIG_DONE && !at.end) {
+            at = hold_record(from, log, length, at.next);
+        }
+        hold(has(from, log, length), "the log reader changed the log");
+    }
+}
+
+static void fuzz_log_walk(struct input *in) {
+    static uint8_t log[ROOM];
+    size_t length = next_log(in, log);
+    struct rig_walk then = plain_walk(log, length);
+#ifndef NO_SECOND
+    hold(same_walk(second_log_walk(log, length), then), "second/ walks otherwise");
+#endif
+    for (enum side side = AT_END; side < SIDES; side++) {
+        uint8_t *from = lend(0, side, log, length);
+        hold(same_walk(rig_log_walk(from, length), then), "the walk is another");
+        hold(has(from, log, length), "the walk changed the log");
+    }
+}
+
 int LLVMFuzzerTestOneInput(const uint8_t *bytes, size_t length);
 int LLVMFuzzerTestOneInput(const uint8_t *bytes, size_t length) {
-    static void (*const entries[])(struct input *) = {fuzz_pec,   fuzz_write, fuzz_chain,           fuzz_read,         fuzz_cells,
-                                                      fuzz_tally, fuzz_wake,  fuzz_conversion_code, fuzz_conversion_of};
+    static void (*const entries[])(struct input *) = {fuzz_pec,   fuzz_write, fuzz_chain,           fuzz_read,          fuzz_cells,
+                                                      fuzz_tally, fuzz_wake,  fuzz_conversion_code, fuzz_conversion_of, fuzz_log_put,
+                                                      fuzz_log_at, fuzz_log_walk};
     struct input in = {bytes, length};
     entries[next(&in) % (sizeof entries / sizeof *entries)](&in);
     return 0;

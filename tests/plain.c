@@ -6,11 +6,11 @@
 
 unsigned long checks, failures;
 
-void expect(int holds, const char *what, unsigned long a, unsigned long b, int line) {
+void expect(int holds, const char *what, unsigned long a, unsigned long b, const char *file, int line) {
     checks++;
     if (!holds) {
         failures++;
-        fprintf(stderr, "line %d: %s does not hold (case %lu, %lu)\n", line, what, a, b);
+        fprintf(stderr, "%s:%d: %s does not hold (case %lu, %lu)\n", file, line, what, a, b);
     }
 }
 
@@ -244,4 +244,88 @@ uint8_t plain_reader_number(uint32_t n, const struct command *command, size_t re
         return RIG_WRONG_LENGTH;
     }
     return data < RIG_DATA_BYTES(n) || marks < n ? RIG_OUTPUT_SHORT : RIG_DONE;
+}
+
+/* ---- the log ---- */
+
+static int plain_within(uint32_t kind, const uint8_t *body, size_t length) {
+    switch (kind) {
+    case 1:
+        return length == 1 && body[0] >= 1 && body[0] <= 16;
+    case 2:
+    case 3:
+        return length <= 132;
+    case 4:
+        return length <= 200;
+    default:
+        return 0;
+    }
+}
+
+uint8_t plain_put_number(uint32_t kind, const uint8_t *body, size_t body_len, size_t out) {
+    if (!plain_within(kind, body, body_len)) {
+        return RIG_LOG_LIMITS;
+    }
+    return out < 4 + body_len ? RIG_OUTPUT_SHORT : RIG_DONE;
+}
+
+size_t plain_put(uint32_t kind, const uint8_t *body, size_t body_len, uint8_t *out) {
+    out[0] = (uint8_t)((2 + body_len) % 256);
+    out[1] = (uint8_t)((2 + body_len) / 256);
+    out[2] = (uint8_t)(kind % 256);
+    out[3] = (uint8_t)(kind / 256);
+    for (size_t i = 0; i < body_len; i++) {
+        out[4 + i] = body[i];
+    }
+    return 4 + body_len;
+}
+
+struct rig_record plain_record(const uint8_t *log, size_t log_len, size_t place) {
+    struct rig_record end = {RIG_DONE, 1, 0, 0, 0, 0}, broken = {RIG_LOG_BROKEN, 0, 0, 0, 0, 0};
+    struct rig_record outside = {RIG_LOG_LIMITS, 0, 0, 0, 0, 0}, found = {RIG_DONE, 0, 0, 0, 0, 0};
+    if (place == log_len) {
+        return end;
+    }
+    if (place > log_len || log_len - place < 4) {
+        return broken;
+    }
+    size_t length = log[place] + (size_t)256 * log[place + 1];
+    if (length < 2 || log_len - place < 2 + length) {
+        return broken;
+    }
+    found.kind = log[place + 2] + (uint32_t)256 * log[place + 3];
+    found.next = place + 2 + length;
+    if (found.kind >= 1 && found.kind <= 4) {
+        if (!plain_within(found.kind, log + place + 4, length - 2)) {
+            return outside;
+        }
+        found.body = place + 4;
+        found.body_len = length - 2;
+    }
+    return found;
+}
+
+struct rig_walk plain_walk(const uint8_t *log, size_t log_len) {
+    struct rig_walk walk = {RIG_DONE, 0, 0, 0, 0, 0, 0};
+    struct rig_record r = plain_record(log, log_len, 0);
+    while (r.number == RIG_DONE && !r.end) {
+        walk.sizes += r.kind == RIG_LOG_SIZE;
+        walk.frames += r.kind == RIG_LOG_FRAME;
+        walk.replies += r.kind == RIG_LOG_REPLY;
+        walk.notes += r.kind == RIG_LOG_NOTE;
+        walk.unknown += r.kind == 0 || r.kind > RIG_LOG_NOTE;
+        walk.at = r.next;
+        r = plain_record(log, log_len, walk.at);
+    }
+    walk.number = r.number;
+    return walk;
+}
+
+int same_record(struct rig_record a, struct rig_record b) {
+    return a.number == b.number && a.end == b.end && a.kind == b.kind && a.body == b.body && a.body_len == b.body_len && a.next == b.next;
+}
+
+int same_walk(struct rig_walk a, struct rig_walk b) {
+    return a.number == b.number && a.at == b.at && a.sizes == b.sizes && a.frames == b.frames && a.replies == b.replies &&
+           a.notes == b.notes && a.unknown == b.unknown;
 }

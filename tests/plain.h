@@ -10,9 +10,9 @@
 extern unsigned long checks, failures;
 
 /* Counts one check; where it fails, says what, and for which case. */
-void expect(int holds, const char *what, unsigned long a, unsigned long b, int line);
+void expect(int holds, const char *what, unsigned long a, unsigned long b, const char *file, int line);
 
-#define EXPECT(holds, what, a, b) expect((holds), (what), (unsigned long)(a), (unsigned long)(b), __LINE__)
+#define EXPECT(holds, what, a, b) expect((holds), (what), (unsigned long)(a), (unsigned long)(b), __FILE__, __LINE__)
 
 /* ---- the commands, each with its kind and group ---- */
 
@@ -62,5 +62,17 @@ int same_conversion(struct rig_conversion a, struct rig_conversion b);
 uint8_t plain_writer_number(uint32_t n, const struct command *command, size_t data, size_t out);
 uint8_t plain_chain_number(uint32_t n, const uint8_t *frame, size_t length, size_t state, size_t reply);
 uint8_t plain_reader_number(uint32_t n, const struct command *command, size_t reply, size_t data, size_t marks);
+
+/* ---- the log, by the words of its request ---- */
+
+/* A record, lawful or not, laid at `out`; its length. */
+size_t plain_put(uint32_t kind, const uint8_t *body, size_t body_len, uint8_t *out);
+uint8_t plain_put_number(uint32_t kind, const uint8_t *body, size_t body_len, size_t out);
+
+struct rig_record plain_record(const uint8_t *log, size_t log_len, size_t place);
+struct rig_walk plain_walk(const uint8_t *log, size_t log_len);
+
+int same_record(struct rig_record a, struct rig_record b);
+int same_walk(struct rig_walk a, struct rig_walk b);
 
 #endif

@@ -1,42 +1,14 @@
 /* rig_test.c: every entry of librig.a or of rig.c, called from C: the numbers of the paper, each refusal in its order with lengths off
- * by one both ways, guard bytes around every lent buffer, and the stack that each entry uses. */
+ * by one both ways, guard bytes around every lent buffer, and the stack that each entry uses. The entries of the log are in log_test.c. */
+#include "lent.h"
+#include "log_test.h"
 #include "plain.h"
 #include "stack.h"
 
 #include <stdio.h>
 #include <string.h>
 
-enum { GUARD = 64, ROOM = 2048, STACK_LIMIT = 2048 };
-
-/* ---- lent buffers: painted, with room on both sides that must stay as it was painted ---- */
-
-struct lent {
-    uint8_t all[GUARD + ROOM + GUARD];
-    size_t length;
-};
-
-static uint8_t paint_at(size_t i) { return (uint8_t)(i * 37 + 11); }
-
-static uint8_t *lend(struct lent *lent, size_t length) {
-    for (size_t i = 0; i < sizeof lent->all; i++) {
-        lent->all[i] = paint_at(i);
-    }
-    lent->length = length;
-    return lent->all + GUARD;
-}
-
-/* Whether nothing but the first `used` bytes was written. */
-static int kept(const struct lent *lent, size_t used) {
-    for (size_t i = 0; i < sizeof lent->all; i++) {
-        if ((i < GUARD || i >= GUARD + used) && lent->all[i] != paint_at(i)) {
-            return 0;
-        }
-    }
-    return 1;
-}
-
-/* A length and its two neighbours; below 0 it stays 0. */
-static size_t near(size_t length, int step) { return length == 0 && step < 0 ? 0 : length + (size_t)step; }
+enum { STACK_LIMIT = 2048 };
 
 /* ---- the check word ---- */
 
@@ -489,7 +461,7 @@ static void test_wake(void) {
 /* ---- the stack that each entry uses, at its longest work ---- */
 
 static uint8_t frame_16[RIG_FRAME_BYTES(16)], state_16[RIG_STATE_BYTES(16)], reply_16[RIG_FRAME_BYTES(16)];
-static uint8_t data_16[RIG_DATA_BYTES(16)], marks_16[16], cells_36[36];
+static uint8_t data_16[RIG_DATA_BYTES(16)], marks_16[16], cells_36[36], log_136[136];
 static struct rig_tally tally_16;
 static uint32_t sink;
 
@@ -504,6 +476,9 @@ static void tally_job(void) { sink += rig_tally_add(&tally_16, marks_16, 16); }
 static void wake_job(void) { sink += rig_wake(16, 0, 4300).wait; }
 static void code_job(void) { sink += rig_conversion_code(RIG_CONVERT_ADCVSC, 3, 1, 0, 0).code; }
 static void conversion_job(void) { sink += rig_conversion_of(0x5F7).mode; }
+static void log_put_job(void) { sink += rig_log_put(RIG_LOG_FRAME, frame_16, 132, log_136, 136).number; }
+static void log_at_job(void) { sink += rig_log_at(log_136, 136, 0).kind; }
+static void log_walk_job(void) { sink += rig_log_walk(log_136, 136).number; }
 
 static void test_stack(void) {
     static const struct { const char *name; void (*job)(void); } jobs[] = {
@@ -511,6 +486,7 @@ static void test_stack(void) {
         {"rig_write (read)", read_frame_job}, {"rig_chain (read)", chain_read_job}, {"rig_read", read_job},
         {"rig_cells", cells_job}, {"rig_tally_add", tally_job}, {"rig_wake", wake_job},
         {"rig_conversion_code", code_job}, {"rig_conversion_of", conversion_job},
+        {"rig_log_put", log_put_job}, {"rig_log_at", log_at_job}, {"rig_log_walk", log_walk_job},
     };
     for (size_t i = 0; i < sizeof jobs / sizeof *jobs; i++) {
         size_t used = stack_of(jobs[i].job);
@@ -526,7 +502,8 @@ int main(int count, char **words) {
     static const struct { const char *name; void (*test)(void); } tests[] = {
         {"rig_pec", test_pec}, {"rig_write", test_write}, {"the known codes", test_codes}, {"conversion codes", test_conversions},
         {"rig_chain", test_chain}, {"rig_read", test_read}, {"conversion frames", test_conversion_frames}, {"rig_cells", test_cells},
-        {"cleared cells", test_cleared}, {"rig_tally_add", test_tally}, {"rig_wake", test_wake}, {"stack", test_stack},
+        {"cleared cells", test_cleared}, {"rig_tally_add", test_tally}, {"rig_wake", test_wake}, {"rig_log_put", test_log_put}, {"rig_log_at", test_log_at},
+        {"cuts of a log", test_log_cuts}, {"flips of a log", test_log_flips}, {"random logs", test_log_random}, {"stack", test_stack},
     };
     if (count > 1 && !no_stack) {
         fprintf(stderr, "%s: %s: the only argument that it takes is --no-stack\n", words[0], words[1]);

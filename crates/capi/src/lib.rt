@@ -6,6 +6,9 @@ ghost use Rattle.chain.specs.Chain.{Serves};
 ghost use Rattle.host.specs.Reader.{HandsOut};
 ghost use Rattle.host.specs.Cells.{ReadsCells};
 ghost use Rattle.host.specs.Wake.{Waits};
+ghost use Rattle.wirelog.specs.Put.{Puts};
+ghost use Rattle.wirelog.specs.Flat.{LaysFlat};
+ghost use Rattle.wirelog.specs.Walk.{Walks};
 ghost use Rattle.capi.specs.Lent.{AddsLent};
 use chain::Heard;
 use frames::conversions::Code;
@@ -14,6 +17,8 @@ use host::cells::Readings;
 use host::tally::Tally;
 use host::wake::Wake;
 use lent::Written;
+use wirelog::flat::FlatRecord;
+use wirelog::walk::Walked;
 
 // The check word.
 #[no_mangle]
@@ -93,4 +98,28 @@ pub extern "C" fn rig_conversion_of(code: u32) -> Conversion
     ensures { λ r. ⌜ TakesApart code r ⌝ }
 {
     frames::conversions::conversion_of(code)
+}
+
+// A record of the wire log.
+#[no_mangle]
+pub extern "C" fn rig_log_put(kind: u32, body: &[u8], out: &mut [u8]) -> Written
+    ensures { λ r. ⌜ Puts kind (now (body .entry)) (now (out .entry)) r (now (out .exit)) ⌝ }
+{
+    wirelog::put::put(kind, body, out)
+}
+
+// The record at a place of a wire log.
+#[no_mangle]
+pub extern "C" fn rig_log_at(log: &[u8], place: usize) -> FlatRecord
+    ensures { λ r. ⌜ LaysFlat (now (log .entry)) place r ⌝ }
+{
+    wirelog::flat::record_at(log, place)
+}
+
+// A whole wire log, record after record.
+#[no_mangle]
+pub extern "C" fn rig_log_walk(log: &[u8]) -> Walked
+    ensures { λ r. ⌜ Walks (now (log .entry)) r ⌝ }
+{
+    wirelog::walk::walk(log)
 }
