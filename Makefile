@@ -1,4 +1,5 @@
 # make run       a controller in C polls a chain over a noisy wire (ARGS='--noise wild'; ARGS=--help lists what there is)
+# make showlog   print a wire log that a controller wrote, a line a record (LOG=FILE; make run ARGS='--log FILE' writes one)
 # make test      every test and every proof, from nothing; the last line is rt's 'N passed, M failed'
 # make lib       build/librig.a, the C entries of include/rig.h, from the proved crates
 # make dist      build/dist/rig.c and rig.h, the same entries as C99 for any processor, printed from the proved code
@@ -7,15 +8,15 @@
 # make bench     how long the entries take beside plain C and beside second/ (ARGS=cells: the rows with that in their name)
 # make fuzz      inputs to the C entries as long as one likes (FUZZ=-runs=N: N of them)
 # make fmt       lay out every Rattle, proof and Rust file
-.PHONY: run test test-arm test-powerpc lib dist install bench fuzz fmt need second header against printed sanitized manual readme ctest example entries fuzz_some dist_alone FORCE
+.PHONY: run showlog test test-arm test-powerpc lib dist install bench fuzz fmt need second header against printed sanitized manual readme ctest example showlogs entries fuzz_some dist_alone FORCE
 
 PREFIX ?= /usr/local
-VERSION := 2.0.0
+VERSION := 2.1.0
 CHECKED := -Wall -Wextra -Wpedantic -Werror -Iinclude
 ARCHIVE := build/librig.a
 SECOND := build/bench/release/libsecond_c.a
 C99 := gcc -std=c99 -O2 $(CHECKED)
-SOURCES := crates.txt $(shell find $(addprefix crates/,lent pec frames chain host capi) -name '*.rt' -o -name '*.antt')
+SOURCES := crates.txt $(shell find $(addprefix crates/,lent pec frames chain host wirelog capi) -name '*.rt' -o -name '*.antt')
 
 # What the tests run against: a library, where they put what they build, what builds and links them, and how long they fuzz.
 LIB ?= $(ARCHIVE)
@@ -29,10 +30,21 @@ RIG_C := build/rig.c
 BUILDS := gcc-O0 gcc-O2 gcc-O3 clang-O0 clang-O2 clang-O3
 SANITIZE := -fsanitize=address,undefined -fno-sanitize=function,vptr -fno-sanitize-recover=all
 
+# The two programs of examples/.
+SHOWLOG := examples/showlog.c examples/names.c
+CONTROLLER := $(filter-out $(SHOWLOG),$(wildcard examples/*.c))
+
 run: build/controller
 	@build/controller $(ARGS)
 
-build/controller: $(wildcard examples/*.c examples/*.h) include/rig.h $(ARCHIVE)
+showlog: build/showlog
+	@test -n '$(LOG)' || { echo "showlog: name the log: make showlog LOG=FILE (make run ARGS='--log FILE' writes one)" >&2; exit 2; }
+	@build/showlog '$(LOG)'
+
+build/controller: $(CONTROLLER) $(wildcard examples/*.h) include/rig.h $(ARCHIVE)
+	@$(C99) $(filter %.c,$^) $(ARCHIVE) -o $@
+
+build/showlog: $(SHOWLOG) examples/names.h include/rig.h $(ARCHIVE)
 	@$(C99) $(filter %.c,$^) $(ARCHIVE) -o $@
 
 test: need second header against printed sanitized dist_alone
@@ -51,7 +63,7 @@ $(ARCHIVE): $(SOURCES) | need
 	@cp target/staticlib/libcapi.a $@
 	@echo '== lib: $@ and include/rig.h are ready'
 
-# The proved MIR as C99. Every function that is printed is held to the MIR of its proved crate.
+# The proved MIR as C99. Every function that is printed, and every type, is held to the MIR of its proved crate.
 $(RIG_C): $(SOURCES) include/rig.h tools/mir2c tools/declared.py $(wildcard tools/printer/*.py) build/revision | need
 	@echo '== rig.c: prove what is printed, and print it'
 	@rt check capi > build/check.log 2>&1 || { tail -40 build/check.log; exit 1; }
@@ -97,7 +109,7 @@ header: $(ARCHIVE)
 	@tools/header include/rig.h $(ARCHIVE)
 
 # Every test of a library: the archive, or a build of rig.c.
-against: manual readme ctest example entries fuzz_some
+against: manual readme ctest example showlogs entries fuzz_some
 
 # rig.c with no warning in C99 and C11, the same bytes when it is printed again, and every test against each of its builds.
 printed: $(RIG_C)
@@ -122,16 +134,18 @@ sanitized: build/c/sanitized/librig.a
 	    RUSTFLAGS='-Clinker=clang -Clink-arg=-fsanitize=address,undefined' CARGO_TARGET_DIR=build/sanitized > $(<D)/log 2>&1 || { tail -40 $(<D)/log; exit 1; }
 	@grep -h -e 'checks, 0 failed' -e 'none failed' -e 'test result' $(<D)/log
 
-# What make dist writes is enough: the example of README.md and the controller are built of it and of nothing else.
+# What make dist writes is enough: the example of README.md, the controller and showlog are built of it and of nothing else.
 dist_alone: dist readme
-	@echo '== dist: the example of README.md and the controller, built from rig.c and rig.h alone'
+	@echo '== dist: the example of README.md, the controller and showlog, built from rig.c and rig.h alone'
 	@gcc -std=c99 -Wall -Wextra -Wpedantic -Werror -Ibuild/dist build/readme.c build/dist/rig.c -o build/dist/readme
 	@build/dist/readme | diff -u build/readme.said -
-	@gcc -std=c99 -O2 -Wall -Wextra -Wpedantic -Werror -Ibuild/dist examples/*.c build/dist/rig.c -o build/dist/controller
+	@gcc -std=c99 -O2 -Wall -Wextra -Wpedantic -Werror -Ibuild/dist $(CONTROLLER) build/dist/rig.c -o build/dist/controller
 	@build/dist/controller --polls 200 --seed 7 > build/dist/controller.log 2>&1 || { cat build/dist/controller.log; exit 1; }
+	@gcc -std=c99 -O2 -Wall -Wextra -Wpedantic -Werror -Ibuild/dist $(SHOWLOG) build/dist/rig.c -o build/dist/showlog
+	@build/dist/showlog tests/showlog/run.log | diff -u tests/showlog/run.txt -
 
 test-arm test-powerpc: test-%: $(RIG_C) build/readme.c
-	@tests/cross $* $(RIG_C)
+	@RIG_TEST='$(RIG_TEST)' CONTROLLER='$(CONTROLLER)' SHOWLOG='$(SHOWLOG)' LOGGED='$(LOGGED)' tests/cross $* $(RIG_C)
 
 # The examples of rig.h, built on an installed library as a user would.
 manual: $(LIB)
@@ -161,20 +175,34 @@ readme: manual build/readme.c
 example: $(LIB)
 	@echo '== example: the controller over noise that the promise allows, over none, over wild noise, and with bad arguments'
 	@mkdir -p $(OUT)
-	@$(TEST_CC) $(CHECKED) examples/*.c $(LIB) -o $(OUT)/controller
+	@$(TEST_CC) $(CHECKED) $(CONTROLLER) $(LIB) -o $(OUT)/controller
 	@$(OUT)/controller --polls 2000 --seed 7 > $(OUT)/controller.log 2>&1 && grep -q '^Cells: .* [1-9][0-9]* unmeasured' $(OUT)/controller.log || { cat $(OUT)/controller.log; exit 1; }
 	@sed -n -e '/^Cells/p' -e '/^Alarms/p' -e '/^Checked/p' $(OUT)/controller.log
 	@$(OUT)/controller --polls 3 --noise none > $(OUT)/controller.log 2>&1 && grep -q '^Cells: 864 valid, 288 unmeasured .* 0 not read' $(OUT)/controller.log || { cat $(OUT)/controller.log; exit 1; }
 	@$(OUT)/controller --polls 50 --noise wild > $(OUT)/controller.log 2>&1; test $$? -le 1
 	@$(OUT)/controller --devices 17 2> $(OUT)/controller.log; test $$? -eq 2
 
+# The stored log is what the controller writes, byte for byte, and showlog prints of it, and of broken ones, what a script makes of them
+# from the words of the request. The listing in README.md is the start of the stored one.
+showlogs: example
+	@echo '== showlog: the log that the controller writes, and broken logs, beside stored listings and those of a script'
+	@$(OUT)/controller $(LOGGED) --log $(OUT)/run.log > $(OUT)/controller.log 2>&1 && cmp $(OUT)/run.log tests/showlog/run.log || { cat $(OUT)/controller.log; exit 1; }
+	@for file in $(OUT)/run.log/none /dev/full; do $(OUT)/controller $(LOGGED) --log $$file > $(OUT)/controller.log 2>&1; test $$? -eq 1 && grep -q "^controller: --log '$$file'" $(OUT)/controller.log || { cat $(OUT)/controller.log; exit 1; }; done
+	@$(TEST_CC) $(CHECKED) -Wconversion $(SHOWLOG) $(LIB) -o $(OUT)/showlog
+	@tests/showlog.py $(OUT)/showlog $(OUT)/logs
+	@sed -n '/^         place  kind/,/^$$/s/^    //p' README.md > $(OUT)/readme.listing
+	@test -s $(OUT)/readme.listing && head -n $$(wc -l < $(OUT)/readme.listing) tests/showlog/run.txt | diff -u $(OUT)/readme.listing -
+
+LOGGED := --devices 3 --polls 1 --seed 191
+
 # The library called from C, by both compilers; the stack that each entry uses is printed.
+RIG_TEST := tests/rig_test.c tests/log_test.c tests/lent.c tests/plain.c tests/stack.c
 ctest: $(LIB)
 	@echo '== ctest: every entry called from C, by clang -O0 too'
 	@mkdir -p $(OUT)
-	@$(TEST_CC) -Wconversion $(CHECKED) tests/rig_test.c tests/plain.c tests/stack.c $(LIB) -o $(OUT)/rig_test
+	@$(TEST_CC) -Wconversion $(CHECKED) $(RIG_TEST) $(LIB) -o $(OUT)/rig_test
 	@$(OUT)/rig_test $(NO_STACK)
-	@clang -std=c99 -O0 $(filter -f%,$(TEST_CC)) -Wconversion $(CHECKED) tests/rig_test.c tests/plain.c tests/stack.c $(LIB) -o $(OUT)/rig_test_clang
+	@clang -std=c99 -O0 $(filter -f%,$(TEST_CC)) -Wconversion $(CHECKED) $(RIG_TEST) $(LIB) -o $(OUT)/rig_test_clang
 	@$(OUT)/rig_test_clang $(NO_STACK) > $(OUT)/rig_test_clang.log || { cat $(OUT)/rig_test_clang.log; exit 1; }
 	@tail -1 $(OUT)/rig_test_clang.log
 	@cppcheck --quiet --std=c99 --enable=warning,portability,performance --error-exitcode=1 --suppress=missingIncludeSystem -Iinclude tests

@@ -3,6 +3,7 @@
    the wire by wire.c; the rest is what a builder's controller does. */
 #include "controller.h"
 
+#include <errno.h>
 #include <stdio.h>
 #include <stdlib.h>
 #include <string.h>
@@ -28,13 +29,19 @@ struct poll {
     uint8_t groups[RIG_DEVICES][36], marks[RIG_DEVICES][CELL_GROUPS];
 };
 
-/* A call that is right by its arguments is never refused. */
-static void want_done(const char *what, uint8_t number)
+/* Ends a run that failed. The log is closed first: this is the one that a builder wants to send in. */
+static void give_up(struct wire_log *log)
+{
+    log_close(log);
+    exit(1);
+}
+
+void want_done(struct wire_log *log, const char *call, uint8_t number)
 {
     if (number != RIG_DONE) {
-        fprintf(stderr, "controller: %s came back with number %u, though its arguments are in order: this is a fault of the rig\n", what,
+        fprintf(stderr, "controller: %s came back with number %u, though its arguments are in order: this is a fault of the rig\n", call,
                 number);
-        exit(1);
+        give_up(log);
     }
 }
 
@@ -42,14 +49,14 @@ static void wait_for_port(struct controller *c)
 {
     struct rig_wait wake = rig_wake(c->options.devices, c->last, c->clock);
 
-    want_done("rig_wake", wake.number);
+    want_done(&c->log, "rig_wake", wake.number);
     c->clock += wake.wait;
     c->waited += wake.wait;
     c->waits += wake.wait > 0;
 }
 
 /* The promise, for noise that it allows: a device took part exactly where neither the command nor its own group was hit. */
-static void want_promise(const struct controller *c, uint32_t hit, uint32_t took_part)
+static void want_promise(struct controller *c, uint32_t hit, uint32_t took_part)
 {
     if (c->options.noise == NOISE_WILD)
         return;
@@ -60,7 +67,7 @@ static void want_promise(const struct controller *c, uint32_t hit, uint32_t took
                     spared ? "was passed over, though neither its group nor the command was hit"
                            : "took part, though its group or the command was hit",
                     c->options.seed);
-            exit(1);
+            give_up(&c->log);
         }
     }
 }
@@ -75,8 +82,10 @@ static struct trip send_frame(struct controller *c, enum way way, uint32_t code,
 
     wait_for_port(c);
     written = rig_write(n, code, data, way == WAY_WRITE ? RIG_DATA_BYTES(n) : 0, frame, sizeof frame);
-    want_done("rig_write", written.number);
+    want_done(&c->log, "rig_write", written.number);
+    log_frame(&c->log, frame, written.length);
     trip = wire_carry(&c->wire, way, frame, c->state, reply);
+    log_reply(&c->log, reply, written.length);
     c->clock += MICROSECONDS_A_BYTE * (uint32_t)written.length;
     c->last = c->clock;
     c->frames++;
@@ -87,9 +96,10 @@ static void ask(struct controller *c, uint32_t code, struct answer *answer)
 {
     uint32_t n = c->options.devices, read = 0;
     struct trip trip = send_frame(c, WAY_READ, code, NULL, answer->reply);
+    uint8_t number = rig_read(n, code, answer->reply, RIG_FRAME_BYTES(n), answer->data, sizeof answer->data, answer->marks, n);
 
-    want_done("rig_read", rig_read(n, code, answer->reply, RIG_FRAME_BYTES(n), answer->data, sizeof answer->data, answer->marks, n));
-    want_done("rig_tally_add", rig_tally_add(&c->tally, answer->marks, n));
+    want_done(&c->log, "rig_read", number);
+    want_done(&c->log, "rig_tally_add", rig_tally_add(&c->tally, answer->marks, n));
     for (uint32_t k = 0; k < n; k++)
         if (answer->marks[k] == RIG_MARK_READ)
             read |= (uint32_t)1 << k;
@@ -116,7 +126,7 @@ static void configure(struct controller *c, uint32_t write_code, uint32_t read_c
     }
     if (seen != all) {
         fprintf(stderr, "controller: command %03X did not reach every device in %d tries: the wire is too noisy\n", write_code, MOST_TRIES);
-        exit(1);
+        give_up(&c->log);
     }
 }
 
@@ -148,7 +158,7 @@ static void start_conversion(struct controller *c)
 {
     struct rig_code adcv = rig_conversion_code(RIG_CONVERT_ADCV, NORMAL, 0, 0, ALL_CELLS);
 
-    want_done("rig_conversion_code", adcv.number);
+    want_done(&c->log, "rig_conversion_code", adcv.number);
     if (send_command(c, adcv.code)) {
         measure_cells(c);
         c->heard++;
@@ -210,10 +220,29 @@ static void poll_cells(struct controller *c, struct old_counts *old)
     }
     for (uint32_t k = 0; k < n; k++) {
         struct rig_readings readings = rig_cells(all.groups[k], 36, all.marks[k], CELL_GROUPS);
-        want_done("rig_cells", readings.number);
+        want_done(&c->log, "rig_cells", readings.number);
         count_marks(c, k, all.marks[k]);
         count_cells(c, k, all.marks[k], &readings);
     }
+}
+
+/* The log's head: what a reader has to know of the run. */
+static void log_start(struct controller *c)
+{
+    char text[80];
+
+    log_open(&c->log, c->options.log);
+    log_size(&c->log, c->options.devices);
+    sprintf(text, "seed %u, noise %s, polls %u", c->options.seed, noise_names[c->options.noise], c->options.polls);
+    log_note(&c->log, text);
+}
+
+static void log_poll(struct controller *c, uint32_t poll)
+{
+    char text[40];
+
+    sprintf(text, "poll %u", poll);
+    log_note(&c->log, text);
 }
 
 static void run(struct controller *c)
@@ -222,15 +251,18 @@ static void run(struct controller *c)
     static const uint8_t cfgb[6] = {0x0F, 0, 0, 0, 0, 0}; /* pull-downs of GPIO 6 to 9 off */
     uint32_t due;
 
+    log_note(&c->log, "configuration");
     configure(c, RIG_WRCFGA, RIG_RDCFGA, cfga);
     configure(c, RIG_WRCFGB, RIG_RDCFGB, cfgb);
     measure_cells(c); /* what the devices have from before */
+    log_note(&c->log, "clear, and a poll before the first conversion");
     c->cleared = send_command(c, RIG_CLRCELL); /* so that it passes for no reading, should the first conversion be lost */
     poll_cells(c, NULL); /* shows whether it was heard; the old rule, which would take each cell for 6.5535 V, is left out */
     due = c->clock;
     for (uint32_t i = 1; i <= c->options.polls; i++) {
         due += POLL_EVERY;
         c->clock = due;
+        log_poll(c, i);
         start_conversion(c);
         poll_cells(c, c->old);
         if (i % PROGRESS == 0)
@@ -254,10 +286,12 @@ int main(int count, char **words)
     c.clock = UINT32_MAX - 2000000; /* two seconds before the clock runs past its end */
     c.last = c.clock - 1000000;
     wire_start(&c.wire, c.options.noise, c.options.devices, c.options.seed);
+    log_start(&c);
     run(&c);
+    log_close(&c.log);
     report(&c);
     if (fflush(stdout) != 0 || ferror(stdout)) {
-        fputs("controller: the table could not be written\n", stderr);
+        fprintf(stderr, "controller: the table could not be written (%s): make room where it goes, or send it elsewhere\n", strerror(errno));
         return 1;
     }
     return c.false_cells > 0 && c.options.noise != NOISE_WILD;

@@ -2,6 +2,7 @@
 #ifndef CONTROLLER_H
 #define CONTROLLER_H
 
+#include "log.h"
 #include "old_rule.h"
 #include "wire.h"
 
@@ -11,6 +12,7 @@ enum { LIMIT = 42500, LOWEST_CELL = 33000, HIGHEST_CELL = 41000 };
 struct options {
     uint32_t devices, polls, seed;
     enum noise noise;
+    const char *log; /* the file to log to, or NULL */
 };
 
 /* A device by this rig's reader. */
@@ -24,6 +26,7 @@ struct counts {
 struct controller {
     struct options options;
     struct wire wire;
+    struct wire_log log;
     uint8_t state[RIG_STATE_BYTES(RIG_DEVICES)]; /* the registers of the chain */
     uint32_t clock, last;              /* microseconds: now, and the end of the last frame */
     uint32_t tries;                    /* rounds of write and read back that it took to configure the chain */
@@ -37,8 +40,15 @@ struct controller {
     uint32_t false_cells; /* cells that rig_cells gives otherwise than their device holds them and their group was marked */
 };
 
+/* What --noise calls a noise. */
+extern const char *const noise_names[3];
+
 /* Reads the arguments. Returns 0 to go on, 1 where --help was asked for and shown, 2 on a bad argument, with a message. */
 int options_read(int count, char **words, struct options *options);
+
+/* A call that is right by its arguments is never refused: where `number` says otherwise it closes the log and ends the controller with
+   status 1. */
+void want_done(struct wire_log *log, const char *call, uint8_t number);
 
 /* Prints what was polled and found, as a table. */
 void report(const struct controller *c);

@@ -4,11 +4,11 @@
 #include <stdio.h>
 #include <string.h>
 
-static const char *const noises[] = {"none", "burst", "wild"};
+const char *const noise_names[3] = {"none", "burst", "wild"};
 
 static void help(void)
 {
-    puts("usage: controller [--devices N] [--polls N] [--noise none|burst|wild] [--seed N]\n"
+    puts("usage: controller [--devices N] [--polls N] [--noise none|burst|wild] [--seed N] [--log FILE]\n"
          "\n"
          "Configures a simulated chain of cell monitors, clears its cells and polls them once, then starts conversions and polls the\n"
          "cells after each, all over a noisy wire. Shows what each device reported, and what a reader by the old nine-in-ten rule would\n"
@@ -19,10 +19,11 @@ static void help(void)
          "  --noise SORT  none; burst: as the promise allows, on one way of a frame, within 15 neighbouring bits of a group; wild:\n"
          "                at random, beyond the promise (burst)\n"
          "  --seed N      0 to 4294967295: the same seed gives the same run (1)\n"
+         "  --log FILE    also write what passed to FILE, each frame as sent and each reply as received; showlog prints it (no log)\n"
          "  --help        this text\n"
          "\n"
          "Status: 0 all went as promised (of wild noise nothing is promised); 1 a promise was broken, the chain could not be configured\n"
-         "or the table not be written; 2 bad arguments.");
+         "or the table or the log not be written; 2 bad arguments.");
 }
 
 /* A whole number of decimal digits from `least` to `most`. */
@@ -46,7 +47,7 @@ static int number(const char *text, uint32_t least, uint32_t most, uint32_t *val
 static int noise_of(const char *text, enum noise *noise)
 {
     for (int i = 0; i < 3; i++)
-        if (strcmp(text, noises[i]) == 0) {
+        if (strcmp(text, noise_names[i]) == 0) {
             *noise = (enum noise)i;
             return 1;
         }
@@ -62,14 +63,18 @@ static const char *take(const char *name, const char *value, struct options *opt
         return number(value, 1, 1000000, &options->polls) ? NULL : "give a whole number from 1 to 1000000";
     if (strcmp(name, "--seed") == 0)
         return number(value, 0, UINT32_MAX, &options->seed) ? NULL : "give a whole number from 0 to 4294967295";
+    if (strcmp(name, "--log") == 0) {
+        options->log = value;
+        return *value != '\0' ? NULL : "name the file to write";
+    }
     return noise_of(value, &options->noise) ? NULL : "give none, burst or wild";
 }
 
 static int is_option(const char *word)
 {
-    static const char *const names[] = {"--devices", "--polls", "--seed", "--noise"};
+    static const char *const names[] = {"--devices", "--polls", "--seed", "--noise", "--log"};
 
-    for (int i = 0; i < 4; i++)
+    for (int i = 0; i < 5; i++)
         if (strcmp(word, names[i]) == 0)
             return 1;
     return 0;

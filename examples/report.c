@@ -131,5 +131,7 @@ void report(const struct controller *c)
     printf("Link tally with configuration: %u replies; %u groups read, %u wrong, %u silent.\n", c->tally.replies, c->tally.read,
            c->tally.wrong, c->tally.silent);
     printf("Wake: %u of %u frames waited for the port, %llu us in all.\n", c->waits, c->frames, (unsigned long long)c->waited);
+    if (c->options.log != NULL)
+        printf("Log: '%s' (make showlog LOG='%s' prints it).\n", c->options.log, c->options.log);
     promise(c, ours.valid + ours.unmeasured + ours.not_read);
 }
