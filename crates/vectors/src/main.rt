@@ -1,9 +1,10 @@
-// Runs what the data sheets and document 01 print against the rig, and shows each answer. The file 'stdout' beside src/ is what the second
+// Runs what the data sheets and documents 01 and 02 print against the rig, and shows each answer. The file 'stdout' beside src/ is what the second
 // implementation answers to the same questions.
 mod cells_cases;
 mod chain_cases;
 mod command_cases;
 mod conversion_cases;
+mod log_cases;
 mod reader_cases;
 mod tally_cases;
 mod wake_cases;
@@ -20,4 +21,5 @@ fn main() {
     cells_cases::show();
     tally_cases::show();
     reader_cases::show();
+    log_cases::show();
 }
