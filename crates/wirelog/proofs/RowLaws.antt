@@ -17,11 +17,22 @@ use Rattle.wirelog.specs.declared.record.Found.{Found}
 use Rattle.wirelog.specs.declared.walk.Walked.{Walked}
 use Rattle.wirelog.proofs.KindLaws.{lawful-known}
 use Rattle.wirelog.proofs.FoundLaws.{at-end}
-use Rattle.wirelog.proofs.RecordLaws.{kindIn, lenIn}
 use Rattle.wirelog.proofs.Undone.{length-record, body-from, reads-back}
 use Rattle.wirelog.proofs.Determined.{goes-determined}
 
--- ROWS APART. What stands first in the log of a row:
+-- ROWS APART. Kind and length that an answer gives, and what stands first in the log of a row:
+abbrev kindIn : Found → ℕ
+kindIn (Found.Record kind body len next) = kind
+kindIn (Found.Unknown kind next) = kind
+kindIn Found.End = 0
+kindIn (Found.Refused number) = 0
+
+abbrev lenIn : Found → ℕ
+lenIn (Found.Record kind body len next) = len
+lenIn (Found.Unknown kind next) = 0
+lenIn Found.End = 0
+lenIn (Found.Refused number) = 0
+
 module _ (item : Item) (row : List Item) where
   first-kind : lawful (item .0) (item .1) ≡ true → kindIn (foundAt (bytesOf (item ∷ row)) 0) ≡ item .0
   unfolding bytesOf

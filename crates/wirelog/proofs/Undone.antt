@@ -4,8 +4,8 @@ use mathlib.Core.Bool.{true, not}
 use mathlib.Core.List.{List, _++_, append-assoc}
 use Prim.Native.Nat.{ℕ, _+_, _-_, _≤_}
 use native.Mathlib.Omega.{arith}
-use borrow.Author.Tests.{not-false, ltb-false, eq-eqb}
-use lib.Dec.{eqb, ltb}
+use borrow.Author.Tests.{not-false, eq-eqb}
+use lib.Dec.{eqb}
 use lib.ListN.{length, take, drop, length-append, length-drop}
 use lib.Seq.{take-at, drop-at, take-add, drop-drop, length-take-le}
 use Rattle.lent.specs.Bytes.{Bytes}
@@ -77,7 +77,7 @@ module _ (kind : ℕ) (body before after : List ℕ) where
 
 -- READ, THEN WRITTEN: the record of what was found is what stands there
 module _ (log : List ℕ) (place kind body len next : ℕ) (b : Bytes log) (e : foundAt log place ≡ Found.Record kind body len next) where
-  there : Recorded log place kind body len next e
+  there : Recorded log place kind body len next
   there = record-there log place kind body len next e
 
   abbrev found : List ℕ
@@ -113,20 +113,12 @@ module _ (log : List ℕ) (place kind body len next : ℕ) (b : Bytes log) (e : 
       ∙ ap (λ (n : ℕ). take n (drop place log)) size
 
 -- THE ENTRIES: what `put` wrote, `record_at` finds, with the body; and what `record_at` found, `put` writes as it stands in the log.
-pub record Fine (kind : ℕ) (body out : List ℕ) : Type 0 where
-  pub is-lawful : lawful kind body ≡ true
-  pub room : 4 + length body ≤ length out
-
-pub fine : (kind : ℕ) (body out : List ℕ) → putNumber kind body out ≡ 0 → Fine kind body out
+put-lawful : (kind : ℕ) (body out : List ℕ) → putNumber kind body out ≡ 0 → lawful kind body ≡ true
 unfolding putNumber lawful
-fine kind body out e =
-    let t1 = none-first (not (known kind)) 10 _ e in
-    let t2 = none-first (not (within kind body)) 10 _ (t1 .1) in
-    let t3 = none-first (ltb (length out) (4 + length body)) 4 _ (t2 .1) in
-    record {
-      is-lawful = rw (not-false (known kind) (t1 .0), not-false (within kind body) (t2 .0));
-      room = ltb-false (length out) (4 + length body) (t3 .0);
-    }
+put-lawful kind body out e =
+    let is-known = none-first (not (known kind)) 10 _ e in
+    let is-within = none-first (not (within kind body)) 10 _ (is-known .1) in
+    rw (not-false (known kind) (is-known .0), not-false (within kind body) (is-within .0))
 
 module _ (kind : ℕ) (body out : List ℕ) (r : Written) (out′ : List ℕ) (w : Puts kind body out r out′) (z : r .number ≡ 0) where
   zero : eqb (putNumber kind body out) 0 ≡ true
@@ -145,7 +137,7 @@ module _ (kind : ℕ) (body out : List ℕ) (r : Written) (out′ : List ℕ) (w
         ≡ Found.Record kind (length before + 4) (length body) (length before + r .length)
     put-then-read =
         ap (λ (l : List ℕ). foundAt (before ++ (l ++ after)) (length before)) wrote
-        ∙ reads-back kind body before after (fine kind body out (sym (w .number) ∙ z) .is-lawful)
+        ∙ reads-back kind body before after (put-lawful kind body out (sym (w .number) ∙ z))
         ∙ ap (λ (n : ℕ). Found.Record kind (length before + 4) (length body) (length before + n)) (sym long-put)
 
     pub body-then-read : take (length body) (drop (length before + 4) (before ++ (take (r .length) out′ ++ after))) ≡ body

@@ -16,7 +16,6 @@ use Rattle.wirelog.specs.declared.walk.Walked.{Walked}
 
 -- no count is above the place, for each record is at least a byte long
 pub record Here (log : List ℕ) (w : Walked) : Type 0 where
-  pub number : w .number ≡ 0
   pub at : w .at ≤ length log
   pub sizes : w .sizes ≤ w .at
   pub frames : w .frames ≤ w .at
@@ -28,7 +27,6 @@ pub record Here (log : List ℕ) (w : Walked) : Type 0 where
 pub here-first : (log : List ℕ) → Here log start
 here-first log =
     record {
-      number = omega arith;
       at = omega arith;
       sizes = omega arith;
       frames = omega arith;
@@ -59,7 +57,6 @@ pub here-next : (log : List ℕ) (w : Walked) (kind next : ℕ) → Here log w �
 unfolding past
 here-next log w kind next h b g =
     record {
-      number = h .number;
       at = b .1;
       sizes = count-more (eqb kind 1) _ _ next (h .sizes) (b .0);
       frames = count-more (eqb kind 2) _ _ next (h .frames) (b .0);
