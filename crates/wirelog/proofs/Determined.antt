@@ -1,12 +1,12 @@
 -- Two results that a statement of this crate allows are equal. Assumes nothing.
-use mathlib.Core.Path.{_≡_, sym, ap₂, _∙_, subst}
+use mathlib.Core.Path.{_≡_, sym, ap₂, _∙_}
 use mathlib.Core.List.{List}
 use Prim.Native.Nat.{ℕ}
 use Rattle.lent.specs.declared.Written.{Written}
 use Rattle.wirelog.specs.Put.{Puts}
-use Rattle.wirelog.specs.Found.{foundAt, FindsAt}
+use Rattle.wirelog.specs.Found.{FindsAt}
 use Rattle.wirelog.specs.Flat.{LaysFlat}
-use Rattle.wirelog.specs.Walk.{past, stopped, Goes, Walks}
+use Rattle.wirelog.specs.Walk.{Walks}
 use Rattle.wirelog.specs.declared.record.Found.{Found}
 use Rattle.wirelog.specs.declared.flat.FlatRecord.{FlatRecord}
 use Rattle.wirelog.specs.declared.walk.Walked.{Walked}
@@ -27,26 +27,5 @@ found-determined log place r r′ f f′ = f .found ∙ sym (f′ .found)
 pub flat-determined : (log : List ℕ) (place : ℕ) (r r′ : FlatRecord) → LaysFlat log place r → LaysFlat log place r′ → r ≡ r′
 flat-determined log place r r′ f f′ = f .laid ∙ sym (f′ .laid)
 
-module _ (log : List ℕ) where
-  -- what a walk that has come to w does, by what stands there
-  abbrev Does : Walked → Walked → Found → Type 0
-  Does r w (Found.Record kind body len next) = Goes log r (past w kind next)
-  Does r w (Found.Unknown kind next) = Goes log r (past w kind next)
-  Does r w Found.End = r ≡ w
-  Does r w (Found.Refused number) = r ≡ stopped w number
-
-  does : (r : Walked) {w : Walked} → Goes log r w → Does r w (foundAt log (w .at))
-  does r (Goes.ends w e q) = subst (Does r w) (sym e) q
-  does r (Goes.refused w number e q) = subst (Does r w) (sym e) q
-  does r (Goes.passes w kind body len next e g) = subst (Does r w) (sym e) g
-  does r (Goes.passes-unknown w kind next e g) = subst (Does r w) (sym e) g
-
-  -- A WALK IS UNIQUE
-  pub goes-determined : (r r′ : Walked) {w : Walked} → Goes log r w → Goes log r′ w → r ≡ r′
-  goes-determined r r′ (Goes.ends w e q) g = q ∙ sym (subst (Does r′ w) e (does r′ g))
-  goes-determined r r′ (Goes.refused w number e q) g = q ∙ sym (subst (Does r′ w) e (does r′ g))
-  goes-determined r r′ (Goes.passes w kind body len next e p) g = goes-determined r r′ p (subst (Does r′ w) e (does r′ g))
-  goes-determined r r′ (Goes.passes-unknown w kind next e p) g = goes-determined r r′ p (subst (Does r′ w) e (does r′ g))
-
-  pub walk-determined : (r r′ : Walked) → Walks log r → Walks log r′ → r ≡ r′
-  walk-determined r r′ w w′ = goes-determined r r′ (w .goes) (w′ .goes)
+pub walk-determined : (log : List ℕ) (r r′ : Walked) → Walks log r → Walks log r′ → r ≡ r′
+walk-determined log r r′ w w′ = w .walked ∙ sym (w′ .walked)

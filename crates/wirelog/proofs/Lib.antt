@@ -2,6 +2,7 @@ pub mod KindLaws
 pub mod PutLaws
 pub mod FoundLaws
 pub mod RecordLaws
+pub mod WalkSteps
 pub mod WalkLaws
 pub mod Undone
 pub mod Determined

@@ -11,11 +11,12 @@ use Rattle.lent.specs.Bytes.{Bytes}
 use Rattle.lent.specs.Refusal.{pick}
 use Rattle.wirelog.specs.Kinds.{known}
 use Rattle.wirelog.specs.Found.{foundAt}
-use Rattle.wirelog.specs.Walk.{past, Goes}
+use Rattle.wirelog.specs.Walk.{past}
 use Rattle.wirelog.specs.Rows.{bytesOf, Reading, OneReading, RowOf, WholeIsRow}
 use Rattle.wirelog.specs.declared.record.Found.{Found}
 use Rattle.wirelog.specs.declared.walk.Walked.{Walked}
 use Rattle.wirelog.proofs.RecordLaws.{record-there, record-next, unknown-kind, end-there, refused-number}
+use Rattle.wirelog.proofs.WalkSteps.{Goes, walks-goes}
 use Rattle.wirelog.proofs.Undone.{lawful-there, writes-back}
 
 -- ONE READING: what stands at its start is what is found there
@@ -83,4 +84,4 @@ module _ (log : List ℕ) (r : Walked) where
         absurd (omega (arith, unknown-grows g, one))
 
 pub whole-is-row : WholeIsRow
-whole-is-row log b r w z u = row-from log r b z (w .goes) u
+whole-is-row log b r w z u = row-from log r b z (walks-goes log r w) u

@@ -11,14 +11,15 @@ use Rattle.lent.specs.Refusal.{pick}
 use Rattle.wirelog.specs.Kinds.{known, lawful}
 use Rattle.wirelog.specs.Record.{recordOf}
 use Rattle.wirelog.specs.Found.{foundAt}
-use Rattle.wirelog.specs.Walk.{start, past, Goes}
+use Rattle.wirelog.specs.Walk.{start, past}
 use Rattle.wirelog.specs.Rows.{Item, AllLawful, bytesOf, ofKind, RowsApart, WalksRows}
 use Rattle.wirelog.specs.declared.record.Found.{Found}
 use Rattle.wirelog.specs.declared.walk.Walked.{Walked}
 use Rattle.wirelog.proofs.KindLaws.{lawful-known}
 use Rattle.wirelog.proofs.FoundLaws.{at-end}
 use Rattle.wirelog.proofs.Undone.{length-record, body-from, reads-back}
-use Rattle.wirelog.proofs.Determined.{goes-determined}
+use Rattle.wirelog.proofs.WalkSteps.{Goes, goes-walks}
+use Rattle.wirelog.proofs.Determined.{walk-determined}
 
 -- ROWS APART. Kind and length that an answer gives, and what stands first in the log of a row:
 abbrev kindIn : Found → ℕ
@@ -111,5 +112,5 @@ goes-row before (item ∷ row) w h a =
 
 pub walks-rows : WalksRows
 walks-rows row a r w =
-    goes-determined (bytesOf row) r (added start row) (w .goes) (goes-row [] row start refl a)
+    walk-determined (bytesOf row) r (added start row) w (goes-walks (bytesOf row) (added start row) (goes-row [] row start refl a))
     ∙ same-walk 0 _ _ _ _ _ _ _ _ _ _ _ _ (zero-add _) (zero-add _) (zero-add _) (zero-add _) (zero-add _) refl

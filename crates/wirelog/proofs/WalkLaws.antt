@@ -9,10 +9,11 @@ use lib.Dec.{eqb}
 use lib.ListN.{length}
 use Rattle.lent.specs.Refusal.{pick}
 use Rattle.wirelog.specs.Kinds.{known}
-use Rattle.wirelog.specs.Walk.{start, past, Fits, Goes, Stops, Walks}
+use Rattle.wirelog.specs.Walk.{start, past, Fits, Stops, Walks}
 use Rattle.wirelog.specs.Found.{foundAt}
 use Rattle.wirelog.specs.declared.record.Found.{Found}
 use Rattle.wirelog.specs.declared.walk.Walked.{Walked}
+use Rattle.wirelog.proofs.WalkSteps.{Goes, walks-goes}
 
 -- no count is above the place, for each record is at least a byte long
 pub record Here (log : List ℕ) (w : Walked) : Type 0 where
@@ -76,4 +77,4 @@ goes-stops log r (Goes.passes w kind body len next e g) z = goes-stops log r g z
 goes-stops log r (Goes.passes-unknown w kind next e g) z = goes-stops log r g z
 
 pub walk-stops : (log : List ℕ) (r : Walked) → Walks log r → Stops log r
-walk-stops log r w = goes-stops log r (w .goes) refl
+walk-stops log r w = goes-stops log r (walks-goes log r w) refl

@@ -1,10 +1,11 @@
 -- A walk over a whole log: record after record from place 0, until the end or a refusal. Assumes nothing.
-use Prim.Native.Nat.{ℕ, _+_, _<_, _^_}
+use Prim.Native.Nat.{ℕ, zero, suc, _+_, _<_, _^_}
 use mathlib.Core.Path.{_≡_}
 use mathlib.Core.Bool.{not}
 use mathlib.Core.Logic.{_⊎_}
 use mathlib.Core.List.{List}
 use lib.Dec.{eqb}
+use lib.ListN.{length}
 use Rattle.lent.specs.Refusal.{pick}
 use Rattle.wirelog.specs.Kinds.{known}
 use Rattle.wirelog.specs.Found.{foundAt}
@@ -39,17 +40,21 @@ pub record Fits (w : Walked) : Type 0 where
   pub notes : w .notes + 1 < 2 ^ 64
   pub unknown : w .unknown + 1 < 2 ^ 64
 
--- A walk that has come to w ends as r.
-pub data Goes (log : List ℕ) (r : Walked) : Walked → Type 0 where
-  ends : (w : Walked) → foundAt log (w .at) ≡ Found.End → r ≡ w → Goes log r w
-  refused : (w : Walked) (number : ℕ) → foundAt log (w .at) ≡ Found.Refused number → r ≡ stopped w number → Goes log r w
-  passes : (w : Walked) (kind body len next : ℕ) → foundAt log (w .at) ≡ Found.Record kind body len next → Goes log r (past w kind next) → Goes log r w
-  passes-unknown : (w : Walked) (kind next : ℕ) → foundAt log (w .at) ≡ Found.Unknown kind next → Goes log r (past w kind next) → Goes log r w
+-- A walk that has come to w, by what it finds there; `on` is the rest of the walk.
+abbrev pub step : (Walked → Walked) → Walked → Found → Walked
+step on w (Found.Record kind body len next) = on (past w kind next)
+step on w (Found.Unknown kind next) = on (past w kind next)
+step on w Found.End = w
+step on w (Found.Refused number) = stopped w number
+
+unfoldable pub walkFrom : ℕ → List ℕ → Walked → Walked
+walkFrom zero log w = w
+walkFrom (suc steps) log w = step (walkFrom steps log) w (foundAt log (w .at))
 
 -- Why a walk stopped: it was at the log's end, with number 0, or at a record that is refused, with its number.
 abbrev pub Stops : List ℕ → Walked → Type 0
 Stops log r = ((r .number ≡ 0) × (foundAt log (r .at) ≡ Found.End)) ⊎ (foundAt log (r .at) ≡ Found.Refused (r .number))
 
--- What `walk` promises.
+-- What `walk` promises. Each step passes a byte at least, so that one step more than the log has bytes is enough to stop.
 pub record Walks (log : List ℕ) (r : Walked) : Type 0 where
-  pub goes : Goes log r start
+  pub walked : r ≡ walkFrom (suc (length log)) log start

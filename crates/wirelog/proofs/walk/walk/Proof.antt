@@ -4,10 +4,11 @@ use native.Mathlib.Omega.{arith}
 use Prim.Native.Nat.{_-_}
 use borrow.Author.Needs.{needs}
 use lib.ListN.{length}
-use Rattle.wirelog.specs.Walk.{past, Goes}
+use Rattle.wirelog.specs.Walk.{past}
 use Rattle.wirelog.specs.declared.walk.Walked.{Walked}
 use Rattle.wirelog.proofs.FoundLaws.{at-end}
 use Rattle.wirelog.proofs.RecordLaws.{record-next, unknown-next}
+use Rattle.wirelog.proofs.WalkSteps.{Goes, goes-walks}
 use Rattle.wirelog.proofs.WalkLaws.{Here, here-first, here-fits, here-next}
 use Rattle.wirelog.proofs.walk.walk.Statement.{statement}
 use Rattle.wirelog.proofs.walk.walk.Tie as tie
@@ -65,18 +66,18 @@ returns : tie.Need-returns Inv-loop μ-loop
 returns c =
     let found = c .before .before in
     let there = found .before .before .before in
-    record { goes = there .loop .inv .back _ (Goes.ends _ (sym (found .record-at .ensures .found) ∙ c .enum-told .given .1) refl) }
+    goes-walks _ _ (there .loop .inv .back _ (Goes.ends _ (sym (found .record-at .ensures .found) ∙ c .enum-told .given .1) refl))
 
 returns-2 : tie.Need-returns-2 Inv-loop μ-loop
 returns-2 c =
     let found = c .before .before .before in
     let there = found .before .before .before in
-    record { goes = there .loop .inv .back _ (Goes.refused _ _ (sym (found .record-at .ensures .found) ∙ c .before .number .given .1) refl) }
+    goes-walks _ _ (there .loop .inv .back _ (Goes.refused _ _ (sym (found .record-at .ensures .found) ∙ c .before .number .given .1) refl))
 
 returns-3 : tie.Need-returns-3 Inv-loop μ-loop
 returns-3 c =
     let there = c .before .before in
-    record { goes = there .loop .inv .back _ (Goes.ends _ (at-end _ _ (omega (arith, there .loop .inv .at))) refl) }
+    goes-walks _ _ (there .loop .inv .back _ (Goes.ends _ (at-end _ _ (omega (arith, there .loop .inv .at))) refl))
 
 pub walk-spec : {M : Type 1} → statement M
 walk-spec =
