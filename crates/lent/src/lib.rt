@@ -2,7 +2,7 @@
 ghost use mathlib.Core.Path.{_≡_};
 ghost use Prim.Native.Nat.{_+_, _≤_};
 ghost use lib.ListN.{length, replicate};
-ghost use Rattle.lent.specs.LowFirst.{lowFirstAt};
+ghost use Rattle.lent.specs.LowFirst.{lowFirstAt, numberOf};
 ghost use Rattle.lent.specs.Memory.{over};
 
 // What a writer came to: its number, and how many bytes of the output it wrote.
@@ -49,5 +49,17 @@ pub fn low_first(bytes: &[u8], at: usize) -> u16
 {
     let low = bytes[at] as u16;
     let high = bytes[at + 1] as u16;
-    low + 256 * high
+    low + (high << 8)
+}
+
+// The number of eight bytes, low byte first: by shifts, of which a compiler makes one read of all eight.
+pub fn eight_bytes(bytes: &[u8]) -> u64
+    requires { ⌜ length (now bytes) ≡ 8 ⌝ }
+    ensures { λ r. ⌜ r ≡ numberOf (now (bytes .entry)) ⌝ }
+{
+    let first = low_first(bytes, 0) as u64;
+    let second = low_first(bytes, 2) as u64;
+    let third = low_first(bytes, 4) as u64;
+    let fourth = low_first(bytes, 6) as u64;
+    first + (second << 16) + (third << 32) + (fourth << 48)
 }

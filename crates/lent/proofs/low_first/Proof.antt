@@ -1,5 +1,4 @@
--- `lent::low_first`: two bytes, low first. Assumes nothing.
-use mathlib.Core.Path.{refl}
+-- `lent::low_first`: two bytes, low first; the high byte is moved up, and nothing of it is lost. Assumes nothing.
 use Prim.Native.Nat.{_+_}
 use native.Mathlib.Omega.{arith}
 use borrow.Author.Needs.{needs}
@@ -13,11 +12,6 @@ cast-low c = omega (arith, c .shared-slice-known .given (c .before .args .at))
 cast-high : tie.Need-cast-high
 cast-high c = omega (arith, c .shared-slice-known2 .given (c .before .before .args .at + 1))
 
-mul-result : tie.Need-mul-result
-mul-result c =
-    let at = c .before .before .args .at in
-    omega (arith, c .shared-slice-known2 .given at, c .shared-slice-known2 .given (at + 1))
-
 add-result : tie.Need-add-result
 add-result c =
     let at = c .before .before .args .at in
@@ -25,7 +19,7 @@ add-result c =
 
 returns : tie.Need-returns
 unfolding lowFirstAt
-returns c = refl
+returns c = omega (arith, c .shared-slice-known2 .given (c .before .before .args .at + 1))
 
 pub low-first-spec : {M : Type 1} → statement M
 low-first-spec =
@@ -36,6 +30,5 @@ low-first-spec =
     (λ c. search needs)
     (λ c. search needs)
     cast-high
-    mul-result
     add-result
     returns)
