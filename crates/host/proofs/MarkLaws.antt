@@ -1,32 +1,43 @@
 -- Laws of silence and of the marks; a right group is never silent, for its last bit is 0. Assumes nothing.
-use mathlib.Core.Path.{_≡_, refl, ap, ap₂, _∙_}
-use mathlib.Core.Bool.{Bool, true, false}
+use mathlib.Core.Path.{_≡_, refl, sym, ap, ap₂, _∙_}
+use mathlib.Core.Bool.{Bool, true, false, _&&_}
 use mathlib.Core.List.{List, [], _∷_}
-use Prim.Native.Nat.{ℕ, zero, suc, _+_, _-_, _<_, _≤_}
-use native.Mathlib.Numerals.{add-one}
+use Prim.Native.Nat.{ℕ, zero, suc, _+_, _*_, _-_, _^_, _<_}
+use native.Mathlib.Nat.{pow-suc}
 use native.Mathlib.Omega.{arith}
-use borrow.Author.Tests.{eqb-true, eq-eqb, ne-eqb}
-use lib.Dec.{eqb}
-use lib.ListN.{length, getD, take, drop, replicate, getD-replicate, drop-of-length-le}
-use lib.Seq.{drop-cons, length-take-le}
+use borrow.Author.Tests.{eqb-true, eqb-false, eq-eqb, ne-eqb}
+use lib.Dec.{eqb, eqb·suc-suc}
+use lib.ListN.{length, getD, take, replicate, getD-replicate}
+use lib.Seq.{length-take-le}
+use Rattle.lent.specs.Bytes.{Bytes}
+use Rattle.lent.specs.LowFirst.{numberOf}
 use Rattle.lent.specs.Refusal.{pick}
 use Rattle.lent.proofs.Tests.{and-left, and-right}
 use Rattle.pec.specs.Group.{right}
 use Rattle.pec.proofs.Group.{closing-zero}
 use Rattle.host.specs.Marks.{readMark, wrongMark, silentMark, silent, markOf, bytesOf}
 
--- The search for a byte that is not 0xFF: one byte more; the byte is found; there is none.
-pub silent-step : (g : List ℕ) (i : ℕ) → i < length g → getD g i 0 ≡ 0xFF → silent (drop i g) ≡ silent (drop (i + 1) g)
-unfolding silent
-silent-step g i h e = rw (add-one, drop-cons g i 0, eq-eqb _ _ e)
+-- Silence as a number. One more than a number of bytes is a power of 256, exactly if its lowest byte is 0xFF and one more than the number n of the others is m, the power below.
+low-byte : (x n m : ℕ) → x < 256 → eqb (suc (x + 256 * n)) (m * 256) ≡ (eqb x 0xFF && eqb (suc n) m)
+low-byte x n m h = go (eqb x 0xFF) (eqb (suc n) m) refl refl
+  where
+    go : (l r : Bool) → eqb x 0xFF ≡ l → eqb (suc n) m ≡ r → eqb (suc (x + 256 * n)) (m * 256) ≡ (l && r)
+    go true true low others = eq-eqb (suc (x + 256 * n)) (m * 256) (omega (arith, eqb-true x 0xFF low, eqb-true (suc n) m others))
+    go true false low others = ne-eqb (suc (x + 256 * n)) (m * 256) (λ e. eqb-false (suc n) m others (omega (arith, e, eqb-true x 0xFF low)))
+    go false r low others = ne-eqb (suc (x + 256 * n)) (m * 256) (λ e. eqb-false x 0xFF low (omega (arith, e)))
 
-pub silent-not : (g : List ℕ) (i : ℕ) → i < length g → (getD g i 0 ≡ 0xFF → ⊥) → silent (drop i g) ≡ false
-unfolding silent
-silent-not g i h e = rw (drop-cons g i 0, ne-eqb _ _ e)
+-- bytes are silent, exactly if no number of as many bytes is higher than theirs
+silent-highest : (g : List ℕ) → Bytes g → eqb (suc (numberOf g)) (256 ^ length g) ≡ silent g
+unfolding silent numberOf
+silent-highest [] b = refl
+silent-highest (x ∷ xs) b =
+    ap (eqb (suc (numberOf (x ∷ xs)))) (pow-suc 256 (length xs))
+    ∙ low-byte x (numberOf xs) (256 ^ length xs) (b .0)
+    ∙ ap (λ (r : Bool). eqb x 0xFF && r) (silent-highest xs (b .1))
 
-pub silent-end : (g : List ℕ) (i : ℕ) → length g ≤ i → silent (drop i g) ≡ true
-unfolding silent
-silent-end g i h = rw drop-of-length-le
+-- so of eight bytes, exactly if theirs is the highest number of 64 bits
+pub silent-number : (g : List ℕ) → Bytes g → length g ≡ 8 → eqb (numberOf g) 0xFFFFFFFFFFFFFFFF ≡ silent g
+silent-number g b h = sym (eqb·suc-suc (numberOf g) 0xFFFFFFFFFFFFFFFF) ∙ ap (λ (k : ℕ). eqb (suc (numberOf g)) (256 ^ k)) (sym h) ∙ silent-highest g b
 
 -- silent, exactly if it is that many bytes 0xFF
 pub silent-all : (g : List ℕ) → silent g ≡ true → g ≡ replicate (length g) 0xFF

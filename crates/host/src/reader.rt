@@ -10,18 +10,15 @@ use crate::marks;
 use frames::commands;
 use frames::size;
 
-// Whether a group is silent: every byte 0xFF.
+// Eight bytes 0xFF, as one number.
+const SILENCE: u64 = 0xFFFF_FFFF_FFFF_FFFF;
+
+// Whether a group is silent: its eight bytes are 0xFF.
 fn is_silent(group: &[u8]) -> bool
+    requires { ⌜ length (now group) ≡ 8 ⌝ }
     ensures { λ r. ⌜ r ≡ silent (now (group .entry)) ⌝ }
 {
-    let mut i = 0;
-    while i < group.len() {
-        if group[i] != 0xFF {
-            return false;
-        }
-        i += 1;
-    }
-    true
+    lent::eight_bytes(group) == SILENCE
 }
 
 // The mark of a device's eight bytes.
