@@ -50,13 +50,14 @@ static const struct maker makers[MAKERS] = {
 static const uint32_t writes[6] = {RIG_WRCFGA, RIG_WRCFGB, RIG_WRCOMM, RIG_WRSCTRL, RIG_WRPWM, RIG_WRPSB};
 static const uint32_t reads[6] = {RIG_RDCVA, RIG_RDCVB, RIG_RDCVC, RIG_RDCVD, RIG_RDCVE, RIG_RDCVF};
 
-/* What goes in: the same for every maker. The frames and replies are those of the chain size at hand. */
+/* What goes in: the same for every maker. The frames and replies are those of the chain size at hand: six replies for each mark, by the
+   mark that every group of theirs gets. */
 static struct {
     uint8_t bytes[LONG_WORD + 8 * SETS];
     uint8_t marks[SETS][16];
     struct rig_conversion conversions[SETS];
     uint32_t codes[SETS];
-    uint8_t write_frames[6][132], read_frames[6][132], replies[6][132];
+    uint8_t write_frames[6][132], read_frames[6][132], replies[3][6][132];
     uint8_t log[SETS * RIG_LOG_BYTES(132)];
     size_t log_len, places[SETS];
 } in;
@@ -106,11 +107,25 @@ static void turn_chain_read(const struct maker *m, uint32_t n, size_t turns)
     }
 }
 
-static void turn_read(const struct maker *m, uint32_t n, size_t turns)
+static void read_replies(const struct maker *m, uint32_t n, size_t turns, uint8_t replies[6][132])
 {
     for (size_t i = 0; i < turns; i++)
-        work.sum += m->read(n, reads[i % 6], in.replies[i % 6], 4 + 8 * n, work.data, sizeof work.data, work.marks,
-                            sizeof work.marks);
+        work.sum += m->read(n, reads[i % 6], replies[i % 6], 4 + 8 * n, work.data, sizeof work.data, work.marks, sizeof work.marks);
+}
+
+static void turn_read(const struct maker *m, uint32_t n, size_t turns)
+{
+    read_replies(m, n, turns, in.replies[RIG_MARK_READ]);
+}
+
+static void turn_read_wrong(const struct maker *m, uint32_t n, size_t turns)
+{
+    read_replies(m, n, turns, in.replies[RIG_MARK_WRONG]);
+}
+
+static void turn_read_silent(const struct maker *m, uint32_t n, size_t turns)
+{
+    read_replies(m, n, turns, in.replies[RIG_MARK_SILENT]);
 }
 
 static void turn_cells(const struct maker *m, uint32_t n, size_t turns)
@@ -191,7 +206,9 @@ static const struct row {
     {"chain read, N = 1", turn_chain_read, 1, 0, 0},
     {"chain read, N = 16", turn_chain_read, 16, 1.1, 1.05},
     {"read, N = 1", turn_read, 1, 0, 0},
-    {"read, N = 16", turn_read, 16, 1.1, 1.05},
+    {"read, N = 16, right", turn_read, 16, 1.1, 1.05},
+    {"read, N = 16, wrong", turn_read_wrong, 16, 1.1, 1.05},
+    {"read, N = 16, silent", turn_read_silent, 16, 1.1, 1.05},
     {"cells of one device", turn_cells, 1, 1.1, 0},
     {"tally, N = 1", turn_tally, 1, 0, 0},
     {"tally, N = 16", turn_tally, 16, 1.1, 0},
@@ -260,6 +277,30 @@ static void make_inputs(void)
     clear_some_cells();
 }
 
+/* Of a right reply from n devices a wrong one, by one bit of each group, and a silent one. */
+static void spoil(uint32_t n, size_t i)
+{
+    memcpy(in.replies[RIG_MARK_WRONG][i], in.replies[RIG_MARK_READ][i], 132);
+    for (uint32_t k = 0; k < n; k++)
+        in.replies[RIG_MARK_WRONG][i][4 + 8 * k + (k + i) % 8] ^= (uint8_t)(1u << (k + 3 * i) % 8);
+    memset(in.replies[RIG_MARK_SILENT][i], 0xFF, 132);
+}
+
+/* The replies are what their rows say: every group of each gets its mark. */
+static void assert_marks(uint32_t n, size_t i)
+{
+    uint8_t data[96], marks[16];
+
+    for (uint8_t mark = 0; mark < 3; mark++) {
+        uint8_t number = plain_read(n, reads[i], in.replies[mark][i], 4 + 8 * n, data, sizeof data, marks, sizeof marks);
+        for (uint32_t k = 0; k < n; k++)
+            if (number != 0 || marks[k] != mark) {
+                fprintf(stderr, "bench: a reply that is to have mark %d in every group has not; nothing is timed\n", mark);
+                exit(1);
+            }
+    }
+}
+
 /* Frames for n devices, a state of random bytes, and the replies to the reads of that state. */
 static void make_frames(uint32_t n)
 {
@@ -268,7 +309,9 @@ static void make_frames(uint32_t n)
     for (size_t i = 0; i < 6; i++) {
         plain_write(n, writes[i], in.bytes + 96 * i, 6 * n, in.write_frames[i], 132);
         plain_write(n, reads[i], NULL, 0, in.read_frames[i], 132);
-        plain_chain(n, in.read_frames[i], 4 + 8 * n, work.state, 108 * n, in.replies[i], 132);
+        plain_chain(n, in.read_frames[i], 4 + 8 * n, work.state, 108 * n, in.replies[RIG_MARK_READ][i], 132);
+        spoil(n, i);
+        assert_marks(n, i);
     }
 }
 

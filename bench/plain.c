@@ -235,6 +235,7 @@ struct rig_heard plain_chain(uint32_t n, const uint8_t *frame, size_t frame_len,
     return heard(0, (uint16_t)((1u << n) - 1));
 }
 
+/* Byte by byte, as the reader was when the goals were set; docs/BENCH.md says how it stands beside memcmp. */
 static int is_silent(const uint8_t *group)
 {
     for (size_t i = 0; i < 8; i++)
