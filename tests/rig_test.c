@@ -273,6 +273,21 @@ static void test_read(void) {
     }
 }
 
+/* Of three groups the middle one is silent but for one byte, which takes every value at every place: it is silent with 0xFF alone, by
+   its own mark and beside plain.c. */
+static void test_almost_silent(void) {
+    uint8_t reply[RIG_FRAME_BYTES(3)], data[RIG_DATA_BYTES(3)], marks[3] = {0};
+    for (size_t at = 0; at < 8; at++) {
+        for (unsigned value = 0; value <= 0xFF; value++) {
+            memset(reply, 0xFF, sizeof reply);
+            reply[12 + at] = (uint8_t)value;
+            one_read(3, RIG_RDCVA, reply, sizeof reply, sizeof data, sizeof marks);
+            EXPECT(rig_read(3, RIG_RDCVA, reply, sizeof reply, data, sizeof data, marks, sizeof marks) == RIG_DONE, "reader's number", at, value);
+            EXPECT((marks[1] == RIG_MARK_SILENT) == (value == 0xFF), "silence is eight bytes 0xFF", at, value);
+        }
+    }
+}
+
 /* ---- cells ---- */
 
 static void one_cells(const uint8_t *groups, size_t groups_len, const uint8_t *marks, size_t marks_len) {
@@ -501,8 +516,8 @@ int main(int count, char **words) {
     int no_stack = count == 2 && strcmp(words[1], "--no-stack") == 0;
     static const struct { const char *name; void (*test)(void); } tests[] = {
         {"rig_pec", test_pec}, {"rig_write", test_write}, {"the known codes", test_codes}, {"conversion codes", test_conversions},
-        {"rig_chain", test_chain}, {"rig_read", test_read}, {"conversion frames", test_conversion_frames}, {"rig_cells", test_cells},
-        {"cleared cells", test_cleared}, {"rig_tally_add", test_tally}, {"rig_wake", test_wake}, {"rig_log_put", test_log_put}, {"rig_log_at", test_log_at},
+        {"rig_chain", test_chain}, {"rig_read", test_read}, {"almost silent", test_almost_silent}, {"conversion frames", test_conversion_frames},
+        {"rig_cells", test_cells}, {"cleared cells", test_cleared}, {"rig_tally_add", test_tally}, {"rig_wake", test_wake}, {"rig_log_put", test_log_put}, {"rig_log_at", test_log_at},
         {"cuts of a log", test_log_cuts}, {"flips of a log", test_log_flips}, {"random logs", test_log_random}, {"stack", test_stack},
     };
     if (count > 1 && !no_stack) {
