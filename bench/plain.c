@@ -235,13 +235,11 @@ struct rig_heard plain_chain(uint32_t n, const uint8_t *frame, size_t frame_len,
     return heard(0, (uint16_t)((1u << n) - 1));
 }
 
-/* Byte by byte, as the reader was when the goals were set; docs/BENCH.md says how it stands beside memcmp. */
 static int is_silent(const uint8_t *group)
 {
-    for (size_t i = 0; i < 8; i++)
-        if (group[i] != 0xff)
-            return 0;
-    return 1;
+    static const uint8_t silence[8] = {0xff, 0xff, 0xff, 0xff, 0xff, 0xff, 0xff, 0xff};
+
+    return memcmp(group, silence, sizeof silence) == 0;
 }
 
 uint8_t plain_read(uint32_t n, uint32_t code, const uint8_t *reply, size_t reply_len, uint8_t *data, size_t data_len,
