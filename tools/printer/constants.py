@@ -1,9 +1,10 @@
 """Which local arrays of a function are constant tables, so that C may have each once, `static const`.
 
-A local is one if a single statement sets it, to numbers, to another such local, or to what a function that only returns such an
-array gives; and if nothing is stored in it: each address of it is only read through, or handed on as a `&` that may not write.
+A local is one if a single statement sets it, to numbers, to another such local, to one that the statement directly before sets to
+numbers, or to what a function that only returns such an array gives; and if nothing is stored in it: each address of it is only
+read through, or handed on as a `&` that may not write.
 """
-from printer.mir import head, items, simple
+from printer.mir import followed, head, items, simple
 
 
 def target(form):
@@ -87,11 +88,19 @@ def constants(item, functions):
             continue
         if only_read(local, kinds, forms):
             found[local] = sets[0]
-    return settle(found, functions)
+    return settle(found, item[5], functions)
 
 
-def settle(sets, functions):
-    """The numbers of each local that comes, over other such locals, from an array that is written out."""
+def just_set(body, copy, local):
+    """The numbers that the statement directly before a copy sets a local to, or None."""
+    for form, before in followed(body):
+        if form is copy and head(before) == "assign" and before[1] == ["place", local, "lnil"]:
+            return numbers(before[2])
+    return None
+
+
+def settle(sets, body, functions):
+    """The numbers of each local that comes, over other locals, from an array that is written out."""
     known, before = {}, None
     while known != before:
         before = dict(known)
@@ -99,7 +108,8 @@ def settle(sets, functions):
             if form[0] == "call":
                 given = only_returns(functions[form[1][1][1].strip('"')])
             elif form[2][0] == "rvOpd" and head(form[2][1]) == "copy" and form[2][1][1][2] == "lnil":
-                given = known.get(form[2][1][1][1])
+                source = form[2][1][1][1]
+                given = known.get(source, just_set(body, form, source))
             else:
                 given = numbers(form[2])
             if given is not None:

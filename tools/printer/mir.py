@@ -82,19 +82,31 @@ def arms(form):
     return out
 
 
+def bodies(form):
+    """The bodies within a statement."""
+    if head(form) in ("block", "loop"):
+        return [form[1]]
+    if head(form) == "if":
+        return [form[2], form[3]]
+    return [arm for _, arm in arms(form[2])] if head(form) == "switch" else []
+
+
 def simple(body):
     """Every statement of a body with no statement in it, and the tests of its ifs and switches."""
     for form in statements(body):
-        if head(form) in ("block", "loop"):
-            yield from simple(form[1])
-            continue
-        yield form
-        if head(form) == "if":
-            yield from simple(form[2])
-            yield from simple(form[3])
-        if head(form) == "switch":
-            for _, arm in arms(form[2]):
-                yield from simple(arm)
+        if head(form) not in ("block", "loop"):
+            yield form
+        for inner in bodies(form):
+            yield from simple(inner)
+
+
+def followed(body):
+    """Each statement of a body that directly follows another, with that other."""
+    forms = statements(body)
+    yield from zip(forms[1:], forms)
+    for form in forms:
+        for inner in bodies(form):
+            yield from followed(inner)
 
 
 def check(form):
