@@ -110,13 +110,16 @@ pub struct Command {
 pub fn find(code: u32) -> Command
     ensures { λ r. ⌜ (r .kind ≡ kindOf code) × (r .group ≡ groupOf code) ⌝ }
 {
+    // Named behind the search, a column would be laid on the stack byte by byte.
     let codes = CODES;
+    let kinds = KINDS;
+    let groups = GROUPS;
     let mut i: usize = 0;
     while i < 26 {
         if codes[i] == code {
             return Command {
-                kind: KINDS[i],
-                group: GROUPS[i],
+                kind: kinds[i],
+                group: groups[i],
             };
         }
         i += 1;
