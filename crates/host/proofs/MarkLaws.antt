@@ -82,6 +82,12 @@ module _ (g : List ℕ) where
   unfolding bytesOf pick
   bytes-none e = rw (ne-eqb _ _ e)
 
+  pub bytes-silent : silent g ≡ true → bytesOf g ≡ replicate 6 0x00
+  bytes-silent s = bytes-none (λ e. absurd (omega (arith, mark-silent s, e)))
+
+  pub bytes-wrong : silent g ≡ false → right g ≡ false → bytesOf g ≡ replicate 6 0x00
+  bytes-wrong s r = bytes-none (λ e. absurd (omega (arith, mark-wrong s r, e)))
+
 -- a group is read exactly if it is right
 pub read-if-right : (g : List ℕ) → 0 < length g → right g ≡ true → markOf g ≡ readMark
 read-if-right g h r = mark-read g (right-not-silent g h r) r

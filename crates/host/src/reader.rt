@@ -1,6 +1,7 @@
 // The host reader: for each device of a reply a mark and six bytes.
 ghost use mathlib.Core.Path.{_≡_};
-ghost use Prim.Native.Nat.{_+_, _*_, _≤_};
+ghost use mathlib.Core.List.{List};
+ghost use Prim.Native.Nat.{ℕ, _+_, _*_, _≤_};
 ghost use lib.ListN.{length};
 ghost use Rattle.lent.specs.Memory.{over};
 ghost use Rattle.pec.specs.Remainders.{remainders};
@@ -21,45 +22,70 @@ fn is_silent(group: &[u8]) -> bool
     lent::eight_bytes(group) == SILENCE
 }
 
-// The mark of a device's eight bytes.
-fn mark_of(table: &[u16; 256], group: &[u8]) -> u8
-    requires { ⌜ (now table ≡ remainders) × (length (now group) ≡ 8) ⌝ }
-    ensures { λ r. ⌜ r ≡ markOf (now (group .entry)) ⌝ }
-{
-    if is_silent(group) {
-        return marks::SILENT;
-    }
-    if pec::is_right(table, group) {
-        return marks::READ;
-    }
-    marks::WRONG
-}
-
-// One device: its mark, and its six bytes fill a part.
+// One device: its mark, and its six bytes fill a part, which is zeros until the group is known to be right.
 fn read_group(table: &[u16; 256], group: &[u8], part: &mut [u8]) -> u8
     requires { ⌜ (now table ≡ remainders) × (length (now group) ≡ 8) × (length (now part) ≡ 6) ⌝ }
     ensures { λ r. ⌜ (r ≡ markOf (now (group .entry))) × (now (part .exit) ≡ bytesOf (now (group .entry))) ⌝ }
 {
-    let mark = mark_of(table, group);
-    if mark == marks::READ {
-        lent::copy_six(&group[0..6], part);
-        return mark;
-    }
+    let silent = is_silent(group);
     lent::fill(part, 0);
-    mark
+    if silent {
+        return marks::SILENT;
+    }
+    if !pec::is_right(table, group) {
+        return marks::WRONG;
+    }
+    lent::copy_six(&group[0..6], part);
+    marks::READ
 }
 
-// All devices, each by its own eight bytes of the reply.
-fn read_groups(table: &[u16; 256], n: usize, reply: &[u8], bytes: &mut [u8], marks: &mut [u8])
-    requires { ⌜ (now table ≡ remainders) × (n ≤ 16) × (length (now reply) ≡ 4 + 8 * n) × (6 * n ≤ length (now bytes)) × (n ≤ length (now marks)) ⌝ }
-    ensures { λ _. ⌜ (now (bytes .exit) ≡ over (allBytes n (now (reply .entry))) (now (bytes .entry))) × (now (marks .exit) ≡ over (allMarks n (now (reply .entry))) (now (marks .entry))) ⌝ }
+// The devices before the first that is heard, and how many they are.
+fn read_silent(n: usize, reply: &[u8], bytes: &mut [u8], marks: &mut [u8]) -> usize
+    requires { ⌜ (n ≤ 16) × (length (now reply) ≡ 4 + 8 * n) × (6 * n ≤ length (now bytes)) × (n ≤ length (now marks)) ⌝ }
+    ensures { λ r. ⌜ (r ≤ n) × (now (bytes .exit) ≡ over (allBytes r (now (reply .entry))) (now (bytes .entry))) × (now (marks .exit) ≡ over (allMarks r (now (reply .entry))) (now (marks .entry))) ⌝ }
 {
     let mut k = 0;
+    while k < n {
+        if !is_silent(&reply[4 + 8 * k..4 + 8 * k + 8]) {
+            return k;
+        }
+        lent::fill(&mut bytes[6 * k..6 * k + 6], 0);
+        marks[k] = marks::SILENT;
+        k += 1;
+    }
+    n
+}
+
+// The devices from `first` on, each by its own eight bytes of the reply, where those before lie over the memory already.
+fn read_from(
+    table: &[u16; 256],
+    first: usize,
+    n: usize,
+    reply: &[u8],
+    bytes: &mut [u8],
+    marks: &mut [u8],
+)
+    requires { ⌜ (now table ≡ remainders) × (first ≤ n) × (n ≤ 16) × (length (now reply) ≡ 4 + 8 * n) × (6 * n ≤ length (now bytes)) × (n ≤ length (now marks)) ⌝ }
+    ensures { λ _. ⌜ ((old : List ℕ) → now (bytes .entry) ≡ over (allBytes first (now (reply .entry))) old → now (bytes .exit) ≡ over (allBytes n (now (reply .entry))) old) × ((old : List ℕ) → now (marks .entry) ≡ over (allMarks first (now (reply .entry))) old → now (marks .exit) ≡ over (allMarks n (now (reply .entry))) old) ⌝ }
+{
+    let mut k = first;
     while k < n {
         let from = 4 + 8 * k;
         let at = 6 * k;
         marks[k] = read_group(table, &reply[from..from + 8], &mut bytes[at..at + 6]);
         k += 1;
+    }
+}
+
+// All devices. Silence needs no check word: the table is laid out only where a device is heard.
+fn read_groups(n: usize, reply: &[u8], bytes: &mut [u8], marks: &mut [u8])
+    requires { ⌜ (n ≤ 16) × (length (now reply) ≡ 4 + 8 * n) × (6 * n ≤ length (now bytes)) × (n ≤ length (now marks)) ⌝ }
+    ensures { λ _. ⌜ (now (bytes .exit) ≡ over (allBytes n (now (reply .entry))) (now (bytes .entry))) × (now (marks .exit) ≡ over (allMarks n (now (reply .entry))) (now (marks .entry))) ⌝ }
+{
+    let first = read_silent(n, reply, bytes, marks);
+    if first < n {
+        let table = pec::table();
+        read_from(&table, first, n, reply, bytes, marks);
     }
 }
 
@@ -88,7 +114,6 @@ pub fn read(n: u32, code: u32, reply: &[u8], bytes: &mut [u8], marks: &mut [u8])
     if marks.len() < devices {
         return 5;
     }
-    let table = pec::table();
-    read_groups(&table, devices, reply, bytes, marks);
+    read_groups(devices, reply, bytes, marks);
     0
 }

@@ -12,6 +12,11 @@ pub length-over : (new old : List ℕ) → length new ≤ length old → length 
 unfolding over
 length-over new old h = simp (length-append, length-drop) (omega arith)
 
+-- past what was laid over it, memory is as long as what lay there
+pub under-over : (new old : List ℕ) (e : ℕ) → length new < e → e ≤ length (over new old) → e ≤ length old
+unfolding over
+under-over new old e n h = omega (arith, length-append new (drop (length new) old), length-drop (length new) old)
+
 pub over-none : (old : List ℕ) → old ≡ over [] old
 unfolding over
 over-none old = refl

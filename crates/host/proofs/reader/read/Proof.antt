@@ -53,17 +53,16 @@ returns-6 c =
 
 read-groups-requires : tie.Need-read-groups-requires
 read-groups-requires c κs = (
-  c .before .before .before .table .ensures,
-  at-most _ (inside (c .before .before .before .before .before .before .before .before .before .before)),
-  c .before .before .before .before .before .before .if4 .left,
-  c .before .before .before .before .before .if5 .left,
-  c .before .before .before .before .if6 .left,
+  at-most _ (inside (c .before .before .before .before .before .before .before .before)),
+  c .before .before .before .before .if4 .left,
+  c .before .before .before .if5 .left,
+  c .before .before .if6 .left,
 )
 
 returns-7 : tie.Need-returns-7
 returns-7 c =
     let all = c .before .before .before .before .read-groups in
-    let six = c .before .before .before .before .before .before .before .before .before in
+    let six = c .before .before .before .before .before .before .before in
     let five = six .before in
     let four = five .before in
     let three = four .before in
@@ -88,7 +87,6 @@ read-spec =
     (λ c. search needs)
     returns-5
     returns-6
-    (λ c κs. search needs)
     read-groups-requires
     (λ c. search needs)
     (λ c. search needs)
