@@ -1,13 +1,13 @@
 -- Laws of what all devices give: its length, and one turn of the loop that lays it over lent memory. Assumes nothing.
 use mathlib.Core.Path.{_≡_, refl, ap, _∙_}
 use mathlib.Core.List.{List}
-use Prim.Native.Nat.{ℕ, suc, _+_, _*_, _-_, _≤_, _<_}
+use Prim.Native.Nat.{ℕ, _+_, _*_, _-_, _≤_, _<_}
 use native.Mathlib.Numerals.{add-one}
 use native.Mathlib.Omega.{arith}
 use lib.ListN.{length, take, drop, set, length-take, length-drop}
 use borrow.Rule.Slice.PartMut.{putMid}
 use Rattle.lent.specs.Memory.{over}
-use Rattle.lent.proofs.Over.{under-over, over-more, over-set}
+use Rattle.lent.proofs.Over.{over-hides, over-more, over-set}
 use Rattle.lent.proofs.Parts.{length-pieces, length-values}
 use Rattle.frames.specs.Places.{eight}
 use Rattle.host.specs.Marks.{markOf, bytesOf}
@@ -31,18 +31,21 @@ pub length-allMarks : (k : ℕ) (reply : List ℕ) → length (allMarks k reply)
 unfolding allMarks
 length-allMarks k reply = length-values (λ (j : ℕ). allMarks j reply) (λ (j : ℕ). markOf (eight j reply)) refl (λ j. refl) k
 
--- room for device k in memory over which devices 1 to `first` lie, a part of what it lay over
-module _ (first k : ℕ) (reply new old : List ℕ) where
-  pub room-bytes : new ≡ over (allBytes first reply) old → first ≤ k → 4 + 8 * k ≤ length reply → 6 * k + 6 ≤ length new → 6 * k + 6 ≤ length old
-  room-bytes e f r h =
-      under-over (allBytes first reply) old (6 * k + 6) (omega (arith, length-allBytes first reply (omega arith))) (omega (arith, ap length e))
+-- what all devices give, laid over memory on which what the first of them give lies already
+module _ (first n : ℕ) (reply old after : List ℕ) (h : first ≤ n) where
+  pub first-bytes : 4 + 8 * n ≤ length reply → after ≡ over (allBytes first reply) old → over (allBytes n reply) after ≡ over (allBytes n reply) old
+  first-bytes r e =
+      ap (over (allBytes n reply)) e
+      ∙ over-hides (allBytes n reply) (allBytes first reply) old (omega (arith, length-allBytes n reply r, length-allBytes first reply (omega arith)))
 
-  pub room-marks : new ≡ over (allMarks first reply) old → first ≤ k → k < length new → k < length old
-  room-marks e f h = under-over (allMarks first reply) old (suc k) (omega (arith, length-allMarks first reply)) (omega (arith, ap length e))
+  pub first-marks : after ≡ over (allMarks first reply) old → over (allMarks n reply) after ≡ over (allMarks n reply) old
+  first-marks e =
+      ap (over (allMarks n reply)) e
+      ∙ over-hides (allMarks n reply) (allMarks first reply) old (omega (arith, length-allMarks n reply, length-allMarks first reply))
 
 -- One turn of the loop, at device k: its part of the reply, and what is laid over the lent bytes and the lent marks.
 module _ (k : ℕ) (reply : List ℕ) where
-  pub its-own : take (4 + 8 * k + 8 - (4 + 8 * k)) (drop (4 + 8 * k) reply) ≡ eight k reply
+  its-own : take (4 + 8 * k + 8 - (4 + 8 * k)) (drop (4 + 8 * k) reply) ≡ eight k reply
   unfolding eight
   its-own = let size : 4 + 8 * k + 8 - (4 + 8 * k) ≡ 8 = omega arith in rw size
 

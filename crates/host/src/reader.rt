@@ -1,7 +1,6 @@
 // The host reader: for each device of a reply a mark and six bytes.
 ghost use mathlib.Core.Path.{_≡_};
-ghost use mathlib.Core.List.{List};
-ghost use Prim.Native.Nat.{ℕ, _+_, _*_, _≤_};
+ghost use Prim.Native.Nat.{_+_, _*_, _≤_};
 ghost use lib.ListN.{length};
 ghost use Rattle.lent.specs.Memory.{over};
 ghost use Rattle.pec.specs.Remainders.{remainders};
@@ -22,7 +21,7 @@ fn is_silent(group: &[u8]) -> bool
     lent::eight_bytes(group) == SILENCE
 }
 
-// One device: its mark, and its six bytes fill a part, which is zeros until the group is known to be right.
+// One device: its mark, and its six bytes fill a part. It is zeroed between the two tests, so that a compiler reads the group anew for the second.
 fn read_group(table: &[u16; 256], group: &[u8], part: &mut [u8]) -> u8
     requires { ⌜ (now table ≡ remainders) × (length (now group) ≡ 8) × (length (now part) ≡ 6) ⌝ }
     ensures { λ r. ⌜ (r ≡ markOf (now (group .entry))) × (now (part .exit) ≡ bytesOf (now (group .entry))) ⌝ }
@@ -39,7 +38,7 @@ fn read_group(table: &[u16; 256], group: &[u8], part: &mut [u8]) -> u8
     marks::READ
 }
 
-// The devices before the first that is heard, and how many they are.
+// The devices before the first that is not silent: for each six zeros and its mark. Gives how many they are.
 fn read_silent(n: usize, reply: &[u8], bytes: &mut [u8], marks: &mut [u8]) -> usize
     requires { ⌜ (n ≤ 16) × (length (now reply) ≡ 4 + 8 * n) × (6 * n ≤ length (now bytes)) × (n ≤ length (now marks)) ⌝ }
     ensures { λ r. ⌜ (r ≤ n) × (now (bytes .exit) ≡ over (allBytes r (now (reply .entry))) (now (bytes .entry))) × (now (marks .exit) ≡ over (allMarks r (now (reply .entry))) (now (marks .entry))) ⌝ }
@@ -56,7 +55,7 @@ fn read_silent(n: usize, reply: &[u8], bytes: &mut [u8], marks: &mut [u8]) -> us
     n
 }
 
-// The devices from `first` on, each by its own eight bytes of the reply, where those before lie over the memory already.
+// The devices from index `first` on, each by its own eight bytes of the reply; what those before give lies there already.
 fn read_from(
     table: &[u16; 256],
     first: usize,
@@ -65,8 +64,8 @@ fn read_from(
     bytes: &mut [u8],
     marks: &mut [u8],
 )
-    requires { ⌜ (now table ≡ remainders) × (first ≤ n) × (n ≤ 16) × (length (now reply) ≡ 4 + 8 * n) × (6 * n ≤ length (now bytes)) × (n ≤ length (now marks)) ⌝ }
-    ensures { λ _. ⌜ ((old : List ℕ) → now (bytes .entry) ≡ over (allBytes first (now (reply .entry))) old → now (bytes .exit) ≡ over (allBytes n (now (reply .entry))) old) × ((old : List ℕ) → now (marks .entry) ≡ over (allMarks first (now (reply .entry))) old → now (marks .exit) ≡ over (allMarks n (now (reply .entry))) old) ⌝ }
+    requires { ⌜ (now table ≡ remainders) × (first ≤ n) × (n ≤ 16) × (length (now reply) ≡ 4 + 8 * n) × (6 * n ≤ length (now bytes)) × (n ≤ length (now marks)) × (now bytes ≡ over (allBytes first (now reply)) (now bytes)) × (now marks ≡ over (allMarks first (now reply)) (now marks)) ⌝ }
+    ensures { λ _. ⌜ (now (bytes .exit) ≡ over (allBytes n (now (reply .entry))) (now (bytes .entry))) × (now (marks .exit) ≡ over (allMarks n (now (reply .entry))) (now (marks .entry))) ⌝ }
 {
     let mut k = first;
     while k < n {
@@ -77,7 +76,7 @@ fn read_from(
     }
 }
 
-// All devices. Silence needs no check word: the table is laid out only where a device is heard.
+// All devices. Silence needs no check word: the table is named only where a device is not silent.
 fn read_groups(n: usize, reply: &[u8], bytes: &mut [u8], marks: &mut [u8])
     requires { ⌜ (n ≤ 16) × (length (now reply) ≡ 4 + 8 * n) × (6 * n ≤ length (now bytes)) × (n ≤ length (now marks)) ⌝ }
     ensures { λ _. ⌜ (now (bytes .exit) ≡ over (allBytes n (now (reply .entry))) (now (bytes .entry))) × (now (marks .exit) ≡ over (allMarks n (now (reply .entry))) (now (marks .entry))) ⌝ }

@@ -12,11 +12,6 @@ pub length-over : (new old : List ℕ) → length new ≤ length old → length 
 unfolding over
 length-over new old h = simp (length-append, length-drop) (omega arith)
 
--- past what was laid over it, memory is as long as what lay there
-pub under-over : (new old : List ℕ) (e : ℕ) → length new < e → e ≤ length (over new old) → e ≤ length old
-unfolding over
-under-over new old e n h = omega (arith, length-append new (drop (length new) old), length-drop (length new) old)
-
 pub over-none : (old : List ℕ) → old ≡ over [] old
 unfolding over
 over-none old = refl
@@ -34,6 +29,21 @@ over-more new piece old a e n p h =
     let size : e - a ≡ length piece = omega arith in
     let both : length (new ++ piece) ≡ a + length piece = omega (arith, length-append new piece) in
     rw (take-at new (drop (length new) old) a n, drop-at new (drop (length new) old) a n, size, n, drop-drop (length piece) a old, both, append-assoc)
+
+-- what is laid over hides what was laid over before, if that was no longer
+pub over-hides : (new older old : List ℕ) → length older ≤ length new → over new (over older old) ≡ over new old
+unfolding over
+over-hides new older old h =
+    ap (λ (l : List ℕ). new ++ l)
+    (ap (λ (m : ℕ). drop m (older ++ drop (length older) old)) {x = length new} {y = length older + (length new - length older)} (omega arith)
+    ∙ sym (drop-drop (length new - length older) (length older) (older ++ drop (length older) old))
+    ∙ ap (λ (l : List ℕ). drop (length new - length older) l) (drop-at older (drop (length older) old) (length older) refl)
+    ∙ drop-drop (length new - length older) (length older) old
+    ∙ ap (λ (m : ℕ). drop m old) {x = length older + (length new - length older)} {y = length new} (omega arith))
+
+-- what lies over memory, laid over it once more
+pub lies-over : (new old after : List ℕ) → after ≡ over new old → after ≡ over new after
+lies-over new old after e = e ∙ sym (over-hides new new old (omega arith)) ∙ ap (over new) (sym e)
 
 -- two pieces, the first written through the part from 0 to a, the second through the part from a to e
 pub over-two : (one two old : List ℕ) (a e : ℕ) → length one ≡ a → e ≡ a + length two → e ≤ length old
