@@ -1,4 +1,4 @@
--- Laws of what all devices give: its length, and one turn of the loop that lays it over lent memory. Assumes nothing.
+-- Laws of what all devices give: its length, one turn of the loop that lays it over lent memory, and that what the first devices gave may lie there before. Assumes nothing.
 use mathlib.Core.Path.{_≡_, refl, ap, _∙_}
 use mathlib.Core.List.{List}
 use Prim.Native.Nat.{ℕ, _+_, _*_, _-_, _≤_, _<_}

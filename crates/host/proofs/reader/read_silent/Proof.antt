@@ -1,4 +1,4 @@
--- `host::reader::read_silent` lays zeros and a mark for each device before the first that is heard. The loop's invariant: what devices 1 to k give lies over both. Assumes nothing.
+-- `host::reader::read_silent` lays zeros and a mark for each device before the first that is not silent. The loop's invariant: what devices 1 to k give lies over both. Assumes nothing.
 use mathlib.Core.Path.{_≡_, refl, sym, ap, _∙_}
 use mathlib.Core.Bool.{true}
 use Prim.Native.Nat.{ℕ, _+_, _*_, _-_, _≤_}
