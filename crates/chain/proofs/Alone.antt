@@ -1,4 +1,4 @@
--- Changing one device's group on the wire at will alters no other device's registers, nor its bit of the word. Number, kind and group depend on the first
+-- Changing one device's group on the wire at will alters no other device's registers nor pin, nor its bit of the word. Number, kind and group depend on the first
 -- four bytes and the length; what a device stores, and its bit, on its own group. Assumes nothing.
 use mathlib.Core.Path.{_≡_, refl, sym, ap, _∙_, subst}
 use mathlib.Core.Bool.{Bool, true, false}
@@ -16,6 +16,7 @@ use Rattle.frames.specs.Places.{wire}
 use Rattle.frames.specs.Commands.{kindOf, groupOf}
 use Rattle.frames.proofs.Lookup.{group-below}
 use Rattle.frames.proofs.KindCases.{length-long}
+use Rattle.chain.specs.Dten.{dten, withDten}
 use Rattle.chain.specs.State.{stored}
 use Rattle.chain.specs.Effect.{written, storedBits, changed, report}
 use Rattle.chain.specs.Chain.{codeOf, chainNumber, chainWord, chainState}
@@ -23,15 +24,16 @@ use Rattle.chain.specs.Alone.{Alone}
 use Rattle.chain.proofs.CodeLaws.{code-alike}
 use Rattle.chain.proofs.Accepted.{Accepted, accepted}
 use Rattle.chain.proofs.WriteLaws.{written-own, written-other}
+use Rattle.chain.proofs.PinLaws.{pins-stay}
 
 -- the number depends on the first four bytes and the length
-number-alike : (n : ℕ) (frame frame′ : List ℕ) (s r : ℕ) → length frame ≡ length frame′ → take 4 frame ≡ take 4 frame′
-    → chainNumber n frame s r ≡ chainNumber n frame′ s r
+number-alike : (n : ℕ) (frame frame′ state : List ℕ) (r : ℕ) → length frame ≡ length frame′ → take 4 frame ≡ take 4 frame′
+    → chainNumber n frame state r ≡ chainNumber n frame′ state r
 unfolding chainNumber
-number-alike n frame frame′ s r l e = simp (l, e, code-alike frame frame′ e)
+number-alike n frame frame′ state r l e = simp (l, e, code-alike frame frame′ e)
 
 -- a good frame: device j + 1, by the kind
-module _ (n : ℕ) (frame frame′ state : List ℕ) (r j : ℕ) (l : length frame ≡ length frame′) (good : Accepted n frame (length state) r) (hj : j < n)
+module _ (n : ℕ) (frame frame′ state : List ℕ) (r j : ℕ) (l : length frame ≡ length frame′) (good : Accepted n frame state r) (hj : j < n)
     (own : wire n j frame ≡ wire n j frame′) where
   abbrev kind : ℕ
   kind = kindOf (codeOf frame)
@@ -48,12 +50,12 @@ module _ (n : ℕ) (frame frame′ state : List ℕ) (r j : ℕ) (l : length fra
       go : (b : Bool) → eqb h g ≡ b → stored j h (written n n g frame state) ≡ stored j h (written n n g frame′ state)
       go true e =
           subst (λ (x : ℕ). stored j x (written n n g frame state) ≡ stored j x (written n n g frame′ state)) (sym (eqb-true h g e))
-          (written-own n g frame state (group-below (codeOf frame)) long (good .state) n j (omega arith) hj
-          ∙ ap (λ (x : List ℕ). pick (right x) (take 6 x) (stored j g state)) own
-          ∙ sym (written-own n g frame′ state (group-below (codeOf frame)) (sym l ∙ long) (good .state) n j (omega arith) hj))
+          (written-own n g frame state (group-below (codeOf frame)) long (good .sound .whole) n j (omega arith) hj
+          ∙ ap (λ (x : List ℕ). pick (right x) (withDten g (dten (stored j g state)) (take 6 x)) (stored j g state)) own
+          ∙ sym (written-own n g frame′ state (group-below (codeOf frame)) (sym l ∙ long) (good .sound .whole) n j (omega arith) hj))
       go false e =
-          written-other n g frame state (group-below (codeOf frame)) long (good .state) n j h (omega arith) lh (λ a q. eqb-false h g e q)
-          ∙ sym (written-other n g frame′ state (group-below (codeOf frame)) (sym l ∙ long) (good .state) n j h (omega arith) lh (λ a q. eqb-false h g e q))
+          written-other n g frame state (group-below (codeOf frame)) long (good .sound .whole) n j h (omega arith) lh (λ a q. eqb-false h g e q)
+          ∙ sym (written-other n g frame′ state (group-below (codeOf frame)) (sym l ∙ long) (good .sound .whole) n j h (omega arith) lh (λ a q. eqb-false h g e q))
 
   changed-alike : (h : ℕ) → h < 18 → stored j h (changed n kind g frame state) ≡ stored j h (changed n kind g frame′ state)
   unfolding changed
@@ -81,19 +83,17 @@ module _ (n : ℕ) (frame frame′ state : List ℕ) (r j : ℕ) (l : length fra
       go false e = ap bit (pick-false (eqb kind 1) _ _ e) ∙ sym (ap bit (pick-false (eqb kind 1) _ _ e))
 
 pub alone : Alone
-alone n k frame frame′ state reply l four wires r r′ after after′ answer answer′ s s′ j hj ne = (registers, word)
+alone n k frame frame′ state reply l four wires r r′ after after′ answer answer′ s s′ j hj ne =
+    (registers, pins-stay n frame state reply r after answer s j hj .0 ∙ sym (pins-stay n frame′ state reply r′ after′ answer′ s′ j hj .0), word)
   where
-    number : ℕ
-    number = chainNumber n frame (length state) (length reply)
-
     same : r .number ≡ r′ .number
-    same = s .number ∙ number-alike n frame frame′ (length state) (length reply) l four ∙ sym (s′ .number)
+    same = s .number ∙ number-alike n frame frame′ state (length reply) l four ∙ sym (s′ .number)
 
     code : codeOf frame ≡ codeOf frame′
     code = code-alike frame frame′ four
 
-    good : r .number ≡ 0 → Accepted n frame (length state) (length reply)
-    good e = accepted n frame (length state) (length reply) (sym (s .number) ∙ e)
+    good : r .number ≡ 0 → Accepted n frame state (length reply)
+    good e = accepted n frame state (length reply) (sym (s .number) ∙ e)
 
     by-number : (h : ℕ) → h < 18 → (b : Bool) → eqb (r .number) 0 ≡ b
         → stored j h (chainState (r .number) n frame state) ≡ stored j h (chainState (r .number) n frame′ state)

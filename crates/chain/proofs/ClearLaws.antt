@@ -1,4 +1,4 @@
--- A clear: its groups become 0xFF on every device, every other group stays. Assumes nothing.
+-- A clear: its groups become 0xFF on every device, every other group and every pin stay. Assumes nothing.
 use mathlib.Core.Path.{_≡_, refl, ap, _∙_}
 use mathlib.Core.Bool.{Bool, true, false, not, _||_}
 use mathlib.Core.Logic.{_⊎_, ⊎-elim}
@@ -20,9 +20,10 @@ use Rattle.lent.proofs.Parts.{part-replicate}
 use Rattle.lent.proofs.Splice.{length-splice, splice-put, splice-before, splice-after, splice-inside}
 use Rattle.frames.specs.Commands.{Row, rows, kindOf, groupOf}
 use Rattle.frames.proofs.Lookup.{looked-up}
-use Rattle.chain.specs.State.{stateLength, spot, stored}
+use Rattle.chain.specs.State.{stateLength, spot, stored, pin, shown}
 use Rattle.chain.specs.Effect.{silence, clearCount, cleared}
-use Rattle.chain.proofs.StateLaws.{within, apart}
+use Rattle.chain.proofs.DtenLaws.{no-dten}
+use Rattle.chain.proofs.StateLaws.{within, apart, shown-alike, pin-splice}
 
 -- the groups of a clear are of the eighteen: one computed test over the table's rows
 roomy : Row → Bool
@@ -33,6 +34,16 @@ unfolding roomy clearCount pick rows kindOf groupOf
 clear-room code e =
     let t : (not (eqb (kindOf code) 3) || leb (groupOf code + clearCount (groupOf code)) 18) ≡ true = looked-up roomy code refl refl refl in
     leb-true (groupOf code + clearCount (groupOf code)) 18 (rw e at t)
+
+-- and CFGA is none of them
+high : Row → Bool
+high r = not (eqb (r .kind) 3) || leb 1 (r .group)
+
+pub clear-high : (code : ℕ) → kindOf code ≡ 3 → 1 ≤ groupOf code
+unfolding high rows kindOf groupOf
+clear-high code e =
+    let t : (not (eqb (kindOf code) 3) || leb 1 (groupOf code)) ≡ true = looked-up high code refl refl refl in
+    leb-true 1 (groupOf code) (rw e at t)
 
 pub clears-some : (g : ℕ) → 0 < clearCount g
 unfolding clearCount
@@ -101,6 +112,21 @@ module _ (n g count : ℕ) (state : List ℕ) (room : g + count ≤ 18) (whole :
           ∙ splice-inside (spot j g) (6 * (h - g)) 6 (silence (6 * count)) (cleared j g count state) (omega (arith, length-silence (6 * count)))
           (omega (arith, length-silence (6 * count), within n j g count l room, length-cleared j (omega arith)))
           ∙ part-silence (6 * (h - g)) 6 (6 * count) (omega arith))
+
+  pub cleared-pin : (j k : ℕ) → j ≤ n → pin k (cleared j g count state) ≡ pin k state
+  unfolding cleared
+  cleared-pin zero k l = refl
+  cleared-pin (suc j) k l =
+      pin-splice n k j g count (silence (6 * count)) (cleared j g count state) (length-silence (6 * count)) l room (length-cleared j (omega arith)) ∙ cleared-pin j k (omega arith)
+
+  -- what a read then shows
+  pub shown-other : (k h : ℕ) → h < 18 → ((h < g) ⊎ (g + count ≤ h)) → shown k h (cleared n g count state) ≡ shown k h state
+  shown-other k h lh ne =
+      shown-alike k h (cleared n g count state) state (cleared-other n k h (omega arith) lh (λ a. ne)) (cleared-pin n k (omega arith))
+
+  pub shown-own : 1 ≤ g → (k h : ℕ) → k < n → g ≤ h → h < g + count → shown k h (cleared n g count state) ≡ silence 6
+  unfolding shown
+  shown-own high k h l a b = no-dten h (pin k (cleared n g count state)) (stored k h (cleared n g count state)) (λ e. omega arith) ∙ cleared-own n k h (omega arith) l a b
 
 pub bytes-cleared : (g count : ℕ) (state : List ℕ) → Bytes state → (j : ℕ) → Bytes (cleared j g count state)
 unfolding cleared silence

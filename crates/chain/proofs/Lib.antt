@@ -1,3 +1,4 @@
+pub mod DtenLaws
 pub mod StateLaws
 pub mod ReadLaws
 pub mod WriteLaws
@@ -7,4 +8,5 @@ pub mod Numbers
 pub mod Determined
 pub mod CodeLaws
 pub mod Accepted
+pub mod PinLaws
 pub mod Alone

@@ -5,16 +5,16 @@ use mathlib.Core.Path.{_≡_}
 use mathlib.Core.List.{List}
 use lib.ListN.{length, take}
 use Rattle.frames.specs.Places.{wire}
-use Rattle.chain.specs.State.{stored}
+use Rattle.chain.specs.State.{stored, pin}
 use Rattle.chain.specs.Chain.{Serves}
 use Rattle.chain.specs.declared.Heard.{Heard}
 
 -- Two frames of any bytes, alike but for the group of device k + 1 on the wire, and what the chain makes of each: every other device j + 1 has the same
--- registers afterwards, and the same bit of the word.
+-- registers and pin afterwards, and the same bit of the word.
 abbrev pub Alone : Type 0
 Alone =
     (n k : ℕ) (frame frame′ state reply : List ℕ) → length frame ≡ length frame′ → take 4 frame ≡ take 4 frame′
     → ((j : ℕ) → j < n → (j ≡ k → ⊥) → wire n j frame ≡ wire n j frame′)
     → (r r′ : Heard) (after after′ answer answer′ : List ℕ) → Serves n frame state reply r after answer → Serves n frame′ state reply r′ after′ answer′
     → (j : ℕ) → j < n → (j ≡ k → ⊥)
-    → ((h : ℕ) → h < 18 → stored j h after ≡ stored j h after′) × (r .word / 2 ^ j % 2 ≡ r′ .word / 2 ^ j % 2)
+    → ((h : ℕ) → h < 18 → stored j h after ≡ stored j h after′) × (pin j after ≡ pin j after′) × (r .word / 2 ^ j % 2 ≡ r′ .word / 2 ^ j % 2)

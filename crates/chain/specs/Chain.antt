@@ -11,7 +11,7 @@ use Rattle.pec.specs.Group.{right}
 use Rattle.frames.specs.Size.{outside}
 use Rattle.frames.specs.Kind.{isUnknown, frameLength}
 use Rattle.frames.specs.Commands.{kindOf, groupOf}
-use Rattle.chain.specs.State.{stateLength}
+use Rattle.chain.specs.State.{stateLength, pinAbove}
 use Rattle.chain.specs.Effect.{silence, answer, changed, report}
 use Rattle.chain.specs.declared.Heard.{Heard}
 
@@ -20,11 +20,11 @@ unfoldable pub codeOf : List ℕ → ℕ
 codeOf frame = getD frame 0 0 * 256 + getD frame 1 0
 
 -- The number: the first that applies (01, "Numbers a call can come back with", Chain).
-unfoldable pub chainNumber : ℕ → List ℕ → ℕ → ℕ → ℕ
-chainNumber n frame stateLen replyLen =
+unfoldable pub chainNumber : ℕ → List ℕ → List ℕ → ℕ → ℕ
+chainNumber n frame state replyLen =
     first
     ((outside n, 1)  -- N not 1..16
-    ∷ (not (eqb stateLen (stateLength n)), 3)  -- state not 108N
+    ∷ (not (eqb (length state) (stateLength n)) || pinAbove n state, 3)  -- state not 109N, or a pin byte above 1
     ∷ (ltb replyLen (length frame), 5)  -- reply below L
     ∷ (ltb (length frame) 4, 6)  -- under 4 bytes
     ∷ (not (right (take 4 frame)), 4)  -- command PEC wrong
@@ -51,7 +51,7 @@ chainReply number n frame state reply =
     (pick (fills number) (over (silence (length frame)) reply) reply)
 
 pub record Serves (n : ℕ) (frame state reply : List ℕ) (r : Heard) (state′ reply′ : List ℕ) : Type 0 where
-  pub number : r .number ≡ chainNumber n frame (length state) (length reply)
+  pub number : r .number ≡ chainNumber n frame state (length reply)
   pub word : r .word ≡ chainWord (r .number) n frame
   pub registers : state′ ≡ chainState (r .number) n frame state
   pub answered : reply′ ≡ chainReply (r .number) n frame state reply

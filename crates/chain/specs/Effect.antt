@@ -10,16 +10,16 @@ use Rattle.lent.specs.Word.{bitsWhere}
 use Rattle.pec.specs.Group.{withPec, right}
 use Rattle.frames.specs.Kind.{isWrite, isRead, isClear, isShort}
 use Rattle.frames.specs.Places.{wire}
-use Rattle.chain.specs.State.{spot, stored, storing}
+use Rattle.chain.specs.State.{spot, shown, storing}
 
 -- the silence of the wire: bytes 0xFF
 unfoldable pub silence : ℕ → List ℕ
 silence count = replicate count 255
 
--- A read: the stored groups of devices 1 to k with their PEC, device 1's first.
+-- A read: what devices 1 to k show of the group, each with its PEC, device 1's first.
 unfoldable pub answers : ℕ → ℕ → List ℕ → List ℕ
 answers zero g state = []
-answers (suc k) g state = answers k g state ++ withPec (stored k g state)
+answers (suc k) g state = answers k g state ++ withPec (shown k g state)
 
 -- A write: devices 1 to k, each by its own group alone. Right PEC, it stores the six bytes; wrong PEC, it keeps what it had.
 unfoldable pub written : ℕ → ℕ → ℕ → List ℕ → List ℕ → List ℕ

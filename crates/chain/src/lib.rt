@@ -8,12 +8,13 @@ ghost use Rattle.pec.specs.Remainders.{remainders};
 ghost use mathlib.Core.Bool.{false};
 ghost use Rattle.frames.specs.Size.{outside};
 ghost use Rattle.frames.specs.Kind.{isRead, frameLength};
-ghost use Rattle.chain.specs.State.{stateLength};
+ghost use Rattle.chain.specs.State.{Sound};
 ghost use Rattle.chain.specs.Effect.{answers, clearCount, changed, report};
 ghost use Rattle.chain.specs.Chain.{Serves};
 use frames::commands;
 
 mod clear;
+mod dten;
 mod read;
 mod state;
 mod write;
@@ -43,7 +44,7 @@ fn obey(
     state: &mut [u8],
     reply: &mut [u8],
 ) -> u16
-    requires { ⌜ (now table ≡ remainders) × (n ≤ 16) × (0 < kind) × (group < 18) × (kind ≡ 3 → group + clearCount group ≤ 18) × (length (now frame) ≡ frameLength n kind) × (length (now state) ≡ stateLength n) × (length (now frame) ≤ length (now reply)) ⌝ }
+    requires { ⌜ (now table ≡ remainders) × (n ≤ 16) × (0 < kind) × (group < 18) × (kind ≡ 3 → group + clearCount group ≤ 18) × (length (now frame) ≡ frameLength n kind) × Sound n (now state) × (length (now frame) ≤ length (now reply)) ⌝ }
     ensures { λ r. ⌜ (r ≡ report n kind (now (frame .entry)))
         × (now (state .exit) ≡ changed n kind group (now (frame .entry)) (now (state .entry)))
         × (now (reply .exit) ≡ pick (isRead kind) (splice 4 (answers n group (now (state .entry))) (now (reply .entry))) (now (reply .entry))) ⌝ }
@@ -65,9 +66,9 @@ fn obey(
     everyone(n)
 }
 
-// What 1 to 16 devices hear of a frame, where the lent state and reply are as long as they have to be.
+// What 1 to 16 devices hear of a frame, where the lent state is sound and the reply as long as it has to be.
 fn hear(n: usize, frame: &[u8], state: &mut [u8], reply: &mut [u8]) -> Heard
-    requires { ⌜ (outside n ≡ false) × (length (now state) ≡ stateLength n) × (length (now frame) ≤ length (now reply)) ⌝ }
+    requires { ⌜ (outside n ≡ false) × Sound n (now state) × (length (now frame) ≤ length (now reply)) ⌝ }
     ensures { λ r. ⌜ Serves n (now (frame .entry)) (now (state .entry)) (now (reply .entry)) r (now (state .exit)) (now (reply .exit)) ⌝ }
 {
     let length = frame.len();
@@ -103,6 +104,9 @@ pub fn serve(n: u32, frame: &[u8], state: &mut [u8], reply: &mut [u8]) -> Heard
         return Heard { number: 1, word: 0 };
     }
     if state.len() != state::state_length(devices) {
+        return Heard { number: 3, word: 0 };
+    }
+    if state::pin_above(devices, state) {
         return Heard { number: 3, word: 0 };
     }
     if reply.len() < frame.len() {

@@ -5,18 +5,33 @@ ghost use lib.ListN.{length, take};
 ghost use Rattle.lent.specs.Refusal.{pick};
 ghost use Rattle.pec.specs.Remainders.{remainders};
 ghost use Rattle.pec.specs.Group.{right};
+ghost use Rattle.chain.specs.Dten.{dten, withDten};
 ghost use Rattle.chain.specs.State.{stateLength};
 ghost use Rattle.chain.specs.Effect.{written, storedBits};
+use crate::dten;
 use crate::state::spot;
 
-// One device and its group on the wire: it stores the six bytes and answers `bit` where the group is right, else keeps what it had and answers 0.
-fn take_group(table: &[u16; 256], group: &[u8], bit: u16, registers: &mut [u8]) -> u16
-    requires { ⌜ (now table ≡ remainders) × (length (now group) ≡ 8) × (length (now registers) ≡ 6) ⌝ }
-    ensures { λ r. ⌜ (r ≡ pick (right (now (group .entry))) bit 0)
-        × (now (registers .exit) ≡ pick (right (now (group .entry))) (take 6 (now (group .entry))) (now (registers .entry))) ⌝ }
+// Six new bytes of a group: all bits are stored, but of CFGA DTEN, which stays.
+fn store_six(group: usize, bytes: &[u8], registers: &mut [u8])
+    requires { ⌜ (length (now bytes) ≡ 6) × (length (now registers) ≡ 6) ⌝ }
+    ensures { λ _. ⌜ now (registers .exit) ≡ withDten group (dten (now (registers .entry))) (now (bytes .entry)) ⌝ }
 {
-    if pec::is_right(table, group) {
-        lent::copy_six(&group[0..6], registers);
+    let kept = registers[0] / 2 % 2;
+    lent::copy_six(bytes, registers);
+    if group != dten::CFGA {
+        return;
+    }
+    registers[0] = dten::with_bit(kept, bytes[0]);
+}
+
+// One device and what the wire has for it: it stores the six bytes and answers `bit` where they are right, else keeps what it had and answers 0.
+fn take_group(table: &[u16; 256], group: usize, wire: &[u8], bit: u16, registers: &mut [u8]) -> u16
+    requires { ⌜ (now table ≡ remainders) × (length (now wire) ≡ 8) × (length (now registers) ≡ 6) ⌝ }
+    ensures { λ r. ⌜ (r ≡ pick (right (now (wire .entry))) bit 0)
+        × (now (registers .exit) ≡ pick (right (now (wire .entry))) (withDten group (dten (now (registers .entry))) (take 6 (now (wire .entry)))) (now (registers .entry))) ⌝ }
+{
+    if pec::is_right(table, wire) {
+        store_six(group, &wire[0..6], registers);
         return bit;
     }
     0
@@ -42,6 +57,7 @@ pub fn store_groups(
         let from = 4 + 8 * (n - 1 - k);
         word += take_group(
             table,
+            group,
             &frame[from..from + 8],
             bit as u16,
             &mut state[at..at + 6],

@@ -117,7 +117,7 @@ returns-5 c =
     done (a .n) (a .frame .now) (a .state .now) (a .reply .now) _ _ _ _ _
     (number-0 _ _ _ _ (start .pre .0) (start .pre .1) (start .pre .2) (four .if1 .left) (checked-right checked) _ (f .0) (known .if3 .left) _ size (long .if4 .left))
     (f .0) (f .1) (obeyed .0) (obeyed .1)
-    (answer-over (a .n) _ _ (a .frame .now) (a .state .now) (a .reply .now) _ _ (omega (arith, f .1, group-below (codeOf (a .frame .now)))) (start .pre .1)
+    (answer-over (a .n) _ _ (a .frame .now) (a .state .now) (a .reply .now) _ _ (omega (arith, f .1, group-below (codeOf (a .frame .now)))) (start .pre .1 .whole)
     (long .if4 .left ∙ size) (start .pre .2) (filled-over (a .frame .now) (a .reply .now) _ (start .pre .2) (filled .fill .ensures)) (obeyed .2))
 
 pub hear-spec : {M : Type 1} → statement M

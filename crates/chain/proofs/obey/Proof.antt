@@ -12,7 +12,7 @@ store-groups-requires : tie.Need-store-groups-requires
 store-groups-requires c κs =
     let start = c .before .before .before .before .before in
     let a = start .args in
-    (start .pre .0, omega arith, omega arith, start .pre .5 ∙ length-long (a .n) (a .kind) (omega arith), start .pre .6)
+    (start .pre .0, omega arith, omega arith, start .pre .5 ∙ length-long (a .n) (a .kind) (omega arith), start .pre .6 .whole)
 
 returns : tie.Need-returns
 returns c =
@@ -36,7 +36,7 @@ clear-groups-requires : tie.Need-clear-groups-requires
 clear-groups-requires c κs =
     let start = c .before .before .before .before .before .before .before .before in
     let many = c .before .clear-count .ensures in
-    (omega arith, omega (arith, clears-some (start .args .group)), omega (arith, start .pre .4 (omega arith)), start .pre .6)
+    (omega arith, omega (arith, clears-some (start .args .group)), omega (arith, start .pre .4 (omega arith)), start .pre .6 .whole)
 
 returns-3 : tie.Need-returns-3
 returns-3 c =

@@ -6,7 +6,7 @@ use lib.ListN.{length}
 use Rattle.lent.specs.Memory.{over}
 use Rattle.lent.proofs.Over.{over-none, over-full}
 use Rattle.chain.specs.Effect.{answers}
-use Rattle.chain.proofs.StateLaws.{room-at, size-most}
+use Rattle.chain.proofs.StateLaws.{room-at, size-most, pin-room, pin-small}
 use Rattle.chain.proofs.ReadLaws.{length-answers, turn}
 use Rattle.chain.proofs.read.put_answers.Statement.{statement}
 use Rattle.chain.proofs.read.put_answers.Tie as tie
@@ -21,24 +21,38 @@ loop-holds : tie.Need-loop-holds Inv-loop μ-loop
 unfolding answers
 loop-holds c = (omega arith, refl, over-none _)
 
-add-put-group : tie.Need-add-put-group Inv-loop μ-loop
-add-put-group c =
-    let a = c .before .before .before .before .before .args in
-    omega (arith, size-most (a .n) (omega arith), room-at (a .n) _ _ 1 _ (c .spot .ensures) (omega arith) (omega arith))
+add-put-answer : tie.Need-add-put-answer Inv-loop μ-loop
+add-put-answer c =
+    let start = c .before .before .before .before .before .before in
+    let n = start .args .n in
+    omega (arith, size-most n (omega arith), room-at n _ _ 1 _ (c .before .spot .ensures) (omega arith) (omega arith))
 
-part-put-group-end : tie.Need-part-put-group-end Inv-loop μ-loop
-part-put-group-end c = omega (arith, room-at (c .before .before .before .before .before .args .n) _ _ 1 _ (c .spot .ensures) (omega arith) (omega arith))
+part-put-answer-end : tie.Need-part-put-answer-end Inv-loop μ-loop
+part-put-answer-end c =
+    let start = c .before .before .before .before .before .before in
+    omega (arith, start .pre .3 .whole, room-at (start .args .n) _ _ 1 _ (c .before .spot .ensures) (omega arith) (omega arith))
 
-put-group-requires : tie.Need-put-group-requires Inv-loop μ-loop
-put-group-requires c κs = (c .before .before .before .before .before .before .before .pre .0, omega arith, omega arith)
+shared-slice-read-put-answer : tie.Need-shared-slice-read-put-answer Inv-loop μ-loop
+shared-slice-read-put-answer c =
+    let spots = c .before .before in
+    let start = spots .before .before .before .before .before .before in
+    omega (arith, start .pre .3 .whole, spots .pin-spot .ensures, pin-room (start .args .n) (spots .before .before .before .loop .k) (omega arith))
+
+put-answer-requires : tie.Need-put-answer-requires Inv-loop μ-loop
+put-answer-requires c κs =
+    let spots = c .before .before .before in
+    let start = spots .before .before .before .before .before .before in
+    (start .pre .0, omega arith, pin-small (start .args .n) _ _ (start .args .state .now) (start .pre .3) (spots .pin-spot .ensures) (omega arith), omega arith)
 
 loop-again : tie.Need-loop-again Inv-loop μ-loop
 loop-again c =
-    let start = c .before .before .before .before .before .before .before .before .before .before in
+    let answer = c .before .before .put-answer in
+    let spots = c .before .before .before .before .before .before in
+    let start = spots .before .before .before .before .before .before in
     let a = start .args in
-    let l = c .before .before .before .before .before .before .before .loop in
-    let t = turn (a .n) (a .group) (a .state .now) (omega arith) (start .pre .3) (l .k) (c .before .before .before .before .before .spot .result) (a .part .now) (l .part) (c .before .before .put-group .last .1 .1 .0)
-    (omega arith) (c .before .before .before .before .before .spot .ensures) (omega arith) (l .inv .2) (c .before .before .put-group .ensures) in
+    let l = spots .before .before .before .loop in
+    let t = turn (a .n) (a .group) (a .state .now) (omega arith) (start .pre .3 .whole) (l .k) (spots .before .spot .result) (spots .pin-spot .result) (a .part .now) (l .part) (answer .last .1 .1 .1 .1 .0)
+    (omega arith) (spots .before .spot .ensures) (spots .pin-spot .ensures) (omega arith) (l .inv .2) (answer .ensures) in
     (omega arith, t .0, t .1)
 
 returns : tie.Need-returns Inv-loop μ-loop
@@ -50,7 +64,7 @@ returns c =
     l .inv .2
     ∙ ap (λ (k : ℕ). over (answers k (a .group) (a .state .now)) (a .part .now)) all
     ∙ over-full (answers (a .n) (a .group) (a .state .now)) (a .part .now)
-    (omega (arith, length-answers (a .n) (a .group) (a .state .now) (omega arith) (start .pre .3) (a .n) (omega arith)))
+    (omega (arith, length-answers (a .n) (a .group) (a .state .now) (omega arith) (start .pre .3 .whole) (a .n) (omega arith)))
 
 pub put-answers-spec : {M : Type 1} → statement M
 put-answers-spec =
@@ -60,16 +74,18 @@ put-answers-spec =
     μ-loop
     loop-holds
     (λ c κs. omega arith)
+    (λ c κs. omega arith)
     (λ c. omega arith)
-    add-put-group
-    (λ c. omega arith)
-    (λ c. omega arith)
-    part-put-group-end
+    add-put-answer
     (λ c. omega arith)
     (λ c. omega arith)
+    part-put-answer-end
+    shared-slice-read-put-answer
     (λ c. omega arith)
     (λ c. omega arith)
-    put-group-requires
+    (λ c. omega arith)
+    (λ c. omega arith)
+    put-answer-requires
     (λ c. omega arith)
     (λ c. omega arith)
     loop-again

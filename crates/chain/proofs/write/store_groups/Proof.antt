@@ -67,8 +67,8 @@ loop-again c =
       omega arith,
       omega (arith, l .inv .1, pow-step (l .k)),
       turn-word (a .n) (l .k) from (l .word) (l .bit) (t .result) (a .frame .now) refl (l .inv .1) (l .inv .2) (t .ensures .0),
-      same-len-mid at (at + 6 - at) (l .state) (t .last .1 .1 .1 .0) (t .kept .1 .1 .1 .0) ∙ l .inv .3,
-      turn (a .n) (l .k) (a .group) at from (a .frame .now) (a .state .now) (l .state) (t .last .1 .1 .1 .0) (omega arith) (start .pre .3) (c .before .before .before .before .before .spot .ensures) refl (l .inv .4) (t .ensures .1),
+      same-len-mid at (at + 6 - at) (l .state) (t .last .1 .1 .1 .1 .0) (t .kept .1 .1 .1 .1 .0) ∙ l .inv .3,
+      turn (a .n) (l .k) (a .group) at from (a .frame .now) (a .state .now) (l .state) (t .last .1 .1 .1 .1 .0) (omega arith) (start .pre .3) (c .before .before .before .before .before .spot .ensures) refl (l .inv .4) (t .ensures .1),
     )
 
 returns : tie.Need-returns Inv-loop μ-loop

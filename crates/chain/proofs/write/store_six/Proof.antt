@@ -1,0 +1,31 @@
+-- `chain::write::store_six` stores six bytes, and of CFGA keeps DTEN. Assumes nothing.
+use mathlib.Core.Path.{_≡_, sym, ap, _∙_}
+use mathlib.Core.List.{List}
+use native.Mathlib.Omega.{arith}
+use borrow.Author.Needs.{needs}
+use lib.ListN.{length}
+use Rattle.lent.proofs.Over.{over-full}
+use Rattle.chain.specs.Dten.{dten}
+use Rattle.chain.proofs.DtenLaws.{dten-laid, no-dten}
+use Rattle.chain.proofs.write.store_six.Statement.{statement}
+use Rattle.chain.proofs.write.store_six.Tie as tie
+use Rattle.chain.proofs.write.store_six.Reads as reads
+use Rattle.chain.proofs.write.store_six.Lts as lts
+
+returns : tie.Need-returns
+returns c =
+    let a = c .before .before .before .before .before .before .before .before .args in
+    c .before .before .before .copy-six .ensures ∙ over-full (a .bytes .now) (a .registers .now) (omega arith)
+    ∙ sym (no-dten (a .group) (dten (a .registers .now)) (a .bytes .now) (c .if1 .taken))
+
+returns-2 : tie.Need-returns-2
+unfolding dten
+returns-2 c =
+    let a = c .before .before .before .before .before .before .before .before .before .before .args in
+    let laid = c .before .before .before .before .before .copy-six .ensures ∙ over-full (a .bytes .now) (a .registers .now) (omega arith) in
+    dten-laid (a .group) (dten (a .registers .now)) _ (a .bytes .now) _ (omega arith) laid (c .with-bit .ensures)
+
+pub store-six-spec : {M : Type 1} → statement M
+store-six-spec =
+    tie.close
+    (tie.spec (λ c. search needs) (λ c κs. search needs) (λ c. search needs) returns (λ c. search needs) (λ c κs. search needs) (λ c. search needs) (λ c. search needs) returns-2)
