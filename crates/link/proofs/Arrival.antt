@@ -21,7 +21,7 @@ use Rattle.frames.specs.Writer.{writerNumber}
 use Rattle.frames.proofs.Sizes as Sizes
 use Rattle.frames.proofs.KindCases.{length-least}
 use Rattle.frames.proofs.FrameParts.{makes, length-frame, frame-out, take-frame, bytes-command}
-use Rattle.chain.specs.State.{stateLength}
+use Rattle.chain.specs.State.{Sound}
 use Rattle.chain.specs.Effect.{silence, answer, changed, report}
 use Rattle.chain.specs.Chain.{codeOf, fills, chainWord, chainState, chainReply}
 use Rattle.chain.proofs.CodeLaws.{code-of}
@@ -35,7 +35,7 @@ length-two : (w : ℕ) → length (twoBytes w) ≡ 2
 unfolding twoBytes
 length-two w = refl
 
-module _ (n : ℕ) (n1 : 1 ≤ n) (n16 : n ≤ 16) (s : Sending) (state : List ℕ) (F : Fair n s) (whole : length state ≡ stateLength n) where
+module _ (n : ℕ) (n1 : 1 ≤ n) (n16 : n ≤ 16) (s : Sending) (state : List ℕ) (F : Fair n s) (sound : Sound n state) where
   pub inside : outside n ≡ false
   inside = Sizes.inside n n1 n16
 
@@ -84,13 +84,13 @@ module _ (n : ℕ) (n1 : 1 ≤ n) (n16 : n ≤ 16) (s : Sending) (state : List �
 
   pub number-lost : lost s ≡ true → serves ours n s state .number ≡ 4
   unfolding serves
-  number-lost e = number-4 n (arrives ours n s) (length state) (length (s .reply)) inside whole room long (command-right ∙ ap not e)
+  number-lost e = number-4 n (arrives ours n s) state (length (s .reply)) inside sound room long (command-right ∙ ap not e)
 
   pub number-good : lost s ≡ false → serves ours n s state .number ≡ 0
   unfolding serves
   number-good e =
       let c = code-arrives e in
-      number-0 n (arrives ours n s) (length state) (length (s .reply)) inside whole room long (command-right ∙ ap not e) (kind s) (ap kindOf (sym c)) (F .known)
+      number-0 n (arrives ours n s) state (length (s .reply)) inside sound room long (command-right ∙ ap not e) (kind s) (ap kindOf (sym c)) (F .known)
       (frameLength n (kind s)) refl arrives-long
 
   -- registers, word and reply, by whether the command was hit

@@ -2,6 +2,7 @@
 use mathlib.Core.Path.{_≡_, sym, ap, _∙_, subst}
 use mathlib.Core.List.{List, [], _∷_}
 use Prim.Native.Nat.{ℕ}
+use Rattle.chain.proofs.StateLaws.{still-sound}
 use Rattle.link.specs.Rig.{ours}
 use Rattle.link.specs.Sending.{Sending}
 use Rattle.link.specs.Step.{Seen, step}
@@ -11,11 +12,11 @@ use Rattle.link.specs.declared.Carried.{Carried}
 use Rattle.link.proofs.OneFrame.{obeys}
 
 pub code-obeys : CodeObeys
-code-obeys n a b state are whole [] fair called = tt
-code-obeys n a b state are whole (c ∷ cs) fair called =
+code-obeys n a b state are sound [] fair called = tt
+code-obeys n a b state are sound (c ∷ cs) fair called =
     let O : Obeys ours n (c .sending) state (seen (c .result) (c .state′) (c .read′) (c .marks′)) =
-    subst (Obeys ours n (c .sending) state) (sym (called .0 .step)) (obeys n a b (c .sending) state (fair .0) are whole) in
-    (O, code-obeys n a b (c .state′) (O .are-bytes) (O .size) cs (fair .1) (called .1))
+    subst (Obeys ours n (c .sending) state) (sym (called .0 .step)) (obeys n a b (c .sending) state (fair .0) are sound) in
+    (O, code-obeys n a b (c .state′) (O .are-bytes) (still-sound n state (c .state′) sound (O .size) (O .pins)) cs (fair .1) (called .1))
 
 -- what is seen fixes the result
 carriedOf : Seen → Carried

@@ -12,9 +12,9 @@ use Rattle.lent.specs.Refusal.{pick}
 use Rattle.frames.specs.Commands.{Row, rows, found, kindOf, groupOf}
 use Rattle.lent.proofs.Tests.{each-below}
 use Rattle.frames.proofs.Lookup.{every, looked-up, found-code}
-use Rattle.chain.specs.State.{stateLength, stored}
+use Rattle.chain.specs.State.{shown, Sound}
 use Rattle.chain.specs.Effect.{silence, clearCount, cleared, changed, report}
-use Rattle.chain.proofs.ClearLaws.{clear-room, cleared-own, cleared-other}
+use Rattle.chain.proofs.ClearLaws.{clear-room, clear-high, shown-own, shown-other}
 use Rattle.link.specs.Rig.{ours}
 use Rattle.link.specs.Sending.{Sending, kind, group, Fair}
 use Rattle.link.specs.Step.{step}
@@ -49,7 +49,7 @@ sweeps-from code h e l =
     looked-up (sweepTest h) code refl refl (tested h l) in
     ap (λ (c : ℕ). sweeps c h) (sym (found-code code rows)) ∙ alike-same (sweeps (found code rows .code) h) (from-first h (found code rows)) (rw e at t)
 
-module _ (n : ℕ) (n1 : 1 ≤ n) (n16 : n ≤ 16) (s : Sending) (state : List ℕ) (F : Fair n s) (whole : length state ≡ stateLength n) (c : kind s ≡ 3) where
+module _ (n : ℕ) (n1 : 1 ≤ n) (n16 : n ≤ 16) (s : Sending) (state : List ℕ) (F : Fair n s) (sound : Sound n state) (c : kind s ≡ 3) where
   abbrev count : ℕ
   count = clearCount (group s)
 
@@ -58,35 +58,35 @@ module _ (n : ℕ) (n1 : 1 ≤ n) (n16 : n ≤ 16) (s : Sending) (state : List �
 
   state-clear : lost s ≡ false → step ours n s state .registers ≡ cleared n (group s) count state
   unfolding changed pick
-  state-clear e = Arrival.state-good n n1 n16 s state F whole e ∙ rw c
+  state-clear e = Arrival.state-good n n1 n16 s state F sound e ∙ rw c
 
   word-clear : lost s ≡ false → step ours n s state .word ≡ 2 ^ n - 1
   unfolding report pick
-  word-clear e = Arrival.word-good n n1 n16 s state F whole e ∙ rw c
+  word-clear e = Arrival.word-good n n1 n16 s state F sound e ∙ rw c
 
   -- every group of every device, where the clear acts
-  swept : (k h : ℕ) → k < n → h < 18 → stored k h (cleared n (group s) count state) ≡ pick (not (sweeps (s .code) h)) (stored k h state) (replicate 6 255)
+  swept : (k h : ℕ) → k < n → h < 18 → shown k h (cleared n (group s) count state) ≡ pick (not (sweeps (s .code) h)) (shown k h state) (replicate 6 255)
   unfolding pick silence
   swept k h lk lh =
       go (leb (group s) h) refl (leb (suc h) (group s + count)) refl
-      ∙ ap (λ (b : Bool). pick (not b) (stored k h state) (replicate 6 255)) (sym (sweeps-from (s .code) h c lh))
+      ∙ ap (λ (b : Bool). pick (not b) (shown k h state) (replicate 6 255)) (sym (sweeps-from (s .code) h c lh))
     where
       go : (a : Bool) → leb (group s) h ≡ a → (b : Bool) → leb (suc h) (group s + count) ≡ b
-          → stored k h (cleared n (group s) count state) ≡ pick (not (a && b)) (stored k h state) (replicate 6 255)
-      go true p true q = cleared-own n (group s) count state room whole n k h (omega arith) lk (leb-true (group s) h p) (leb-true (suc h) (group s + count) q)
+          → shown k h (cleared n (group s) count state) ≡ pick (not (a && b)) (shown k h state) (replicate 6 255)
+      go true p true q = shown-own n (group s) count state room (sound .whole) (clear-high (s .code) c) k h lk (leb-true (group s) h p) (leb-true (suc h) (group s + count) q)
       go true p false q =
-          cleared-other n (group s) count state room whole n k h (omega arith) lh (λ x. inr (omega (arith, leb-false (suc h) (group s + count) q)))
-      go false p b q = cleared-other n (group s) count state room whole n k h (omega arith) lh (λ x. inl (leb-false (group s) h p))
+          shown-other n (group s) count state room (sound .whole) k h lh (inr (omega (arith, leb-false (suc h) (group s + count) q)))
+      go false p b q = shown-other n (group s) count state room (sound .whole) k h lh (inl (leb-false (group s) h p))
 
   all : (b : Bool) → lost s ≡ b → (k h : ℕ) → k < n → h < 18
-      → stored k h (step ours n s state .registers) ≡ pick (b || not (sweeps (s .code) h)) (stored k h state) (replicate 6 255)
+      → shown k h (step ours n s state .registers) ≡ pick (b || not (sweeps (s .code) h)) (shown k h state) (replicate 6 255)
   unfolding pick
-  all true e k h lk lh = ap (stored k h) (Arrival.state-lost n n1 n16 s state F whole e)
-  all false e k h lk lh = ap (stored k h) (state-clear e) ∙ swept k h lk lh
+  all true e k h lk lh = ap (shown k h) (Arrival.state-lost n n1 n16 s state F sound e)
+  all false e k h lk lh = ap (shown k h) (state-clear e) ∙ swept k h lk lh
 
   word : (b : Bool) → lost s ≡ b → step ours n s state .word ≡ pick b 0 (2 ^ n - 1)
   unfolding pick
-  word true e = Arrival.word-lost n n1 n16 s state F whole e
+  word true e = Arrival.word-lost n n1 n16 s state F sound e
   word false e = word-clear e
 
   pub clears : Clears n s state (step ours n s state)

@@ -20,7 +20,8 @@ use Rattle.frames.specs.Places.{six}
 use Rattle.frames.proofs.Lookup.{every, looked-up}
 use Rattle.frames.proofs.KindCases.{needs-none}
 use Rattle.pec.proofs.Mask.{unhit-take, unhit-zeros}
-use Rattle.chain.specs.State.{stateLength, stored}
+use Rattle.chain.specs.Dten.{withDten}
+use Rattle.chain.specs.State.{pin, shown, Sound}
 use Rattle.host.specs.Marks.{wasRead}
 use Rattle.host.specs.Cells.{countAt, readAt, clearedAt, unmeasuredAt, validAt}
 use Rattle.host.proofs.CellsCases.{each-bit, each-unmeasured}
@@ -57,24 +58,24 @@ unfolding pick
 same-pick true x = refl
 same-pick false x = refl
 
-module _ (n k h : ℕ) (l : h < 18) (o : sweeps clearsCells h ≡ true) where
+module _ (n k h p : ℕ) (l : h < 18) (o : sweeps clearsCells h ≡ true) where
   -- a frame leaves a blank group of cells blank, and so does a run
-  blank-stays : (s : Sending) → takes n k h s blank ≡ blank
+  blank-stays : (s : Sending) → takes n k h p s blank ≡ blank
   unfolding takes
   blank-stays s = by-kind (eqb (kind s) 1) refl
     where
       cleared : (b c : Bool) → pick b (pick c blank blank) blank ≡ blank
       cleared b c = ap (λ (x : List ℕ). pick b x blank) (same-pick c blank) ∙ same-pick b blank
 
-      by-kind : (w : Bool) → eqb (kind s) 1 ≡ w → takes n k h s blank ≡ blank
+      by-kind : (w : Bool) → eqb (kind s) 1 ≡ w → takes n k h p s blank ≡ blank
       by-kind true e =
           pick-true (eqb (kind s) 1) _ _ e
-          ∙ pick-false (eqb h (group s) && not (missed n s k)) (six k (s .bytes)) blank (ap (λ (b : Bool). b && not (missed n s k)) (no-write (s .code) h l o (eqb-true (kind s) 1 e)))
+          ∙ pick-false (eqb h (group s) && not (missed n s k)) (withDten h p (six k (s .bytes))) blank (ap (λ (b : Bool). b && not (missed n s k)) (no-write (s .code) h l o (eqb-true (kind s) 1 e)))
       by-kind false e = pick-false (eqb (kind s) 1) _ _ e ∙ cleared (eqb (kind s) 3) (sweeps (s .code) h && not (lost s))
 
-  all-blank : (ss : List Sending) → holds n k h ss blank ≡ blank
+  all-blank : (ss : List Sending) → holds n k h p ss blank ≡ blank
   all-blank [] = refl
-  all-blank (s ∷ ss) = ap (holds n k h ss) (blank-stays s) ∙ all-blank ss
+  all-blank (s ∷ ss) = ap (holds n k h p ss) (blank-stays s) ∙ all-blank ss
 
 is-clear : kindOf clearsCells ≡ 3
 unfolding kindOf rows found pick
@@ -92,24 +93,24 @@ module _ (R : Rig) (d : Demand3 R) (n : ℕ) (n1 : 1 ≤ n) (n16 : n ≤ 16) (st
   abbrev seen : Seen
   seen = step R n read after
 
-  blank-after : stored k (2 + g) after ≡ blank
+  blank-after : shown k (2 + g) after ≡ blank
   unfolding takes
   blank-after =
       let h = A .a-group in
       let l : 2 + g < 18 = omega arith in
       let o = swept g h in
-      let old : List ℕ = stored k (2 + g) state in
+      let old : List ℕ = shown k (2 + g) state in
       let c : kind clear ≡ 3 = ap kindOf (A .clears) ∙ is-clear in
       let acts : (sweeps (clear .code) (2 + g) && not (lost clear)) ≡ true = ap₂ (λ (x y : Bool). x && not y) (ap (λ (i : ℕ). sweeps i (2 + g)) (A .clears) ∙ o) (A .acted) in
-      let first : takes n k (2 + g) clear old ≡ blank =
+      let first : takes n k (2 + g) (pin k state) clear old ≡ blank =
       pick-false (eqb (kind clear) 1) _ _ (ap (λ (i : ℕ). eqb i 1) c) ∙ pick-true (eqb (kind clear) 3) _ old (ap (λ (i : ℕ). eqb i 3) c) ∙ pick-true _ blank old acts in
-      run-holds R d n n1 n16 state (A .are-bytes) (A .whole) (clear ∷ run) (A .fair, A .run-fair) .2 k (2 + g) lk l
-      ∙ ap (holds n k (2 + g) run) first
-      ∙ all-blank n k (2 + g) l o run
+      run-holds R d n n1 n16 state (A .are-bytes) (A .sound) (clear ∷ run) (A .fair, A .run-fair) .2 k (2 + g) lk l
+      ∙ ap (holds n k (2 + g) (pin k state) run) first
+      ∙ all-blank n k (2 + g) (pin k state) l o run
 
   promised : Reads n read after seen
   promised =
-      let held = run-holds R d n n1 n16 state (A .are-bytes) (A .whole) (clear ∷ run) (A .fair, A .run-fair) in
+      let held = run-holds R d n n1 n16 state (A .are-bytes) (A .sound) (clear ∷ run) (A .fair, A .run-fair) in
       first-obeys R d n n1 n16 after (held .0) (held .1) read (A .read-fair) .read (A .is-read)
 
   abbrev was : Bool
@@ -120,7 +121,7 @@ module _ (R : Rig) (d : Demand3 R) (n : ℕ) (n1 : 1 ≤ n) (n16 : n ≤ 16) (st
   blank-if-read e =
       promised .bytes k lk
       ∙ pick-false (unread read k) (replicate 6 0) _ (not-true (unread read k) (sym (promised .mark k lk) ∙ e))
-      ∙ ap (λ (i : ℕ). stored k i after) (A .of-cells)
+      ∙ ap (λ (i : ℕ). shown k i after) (A .of-cells)
       ∙ blank-after
 
   module _ (groups marks : List ℕ) (H : HandedOn k g seen groups marks) where
@@ -189,14 +190,14 @@ read-tested g h = each-below readTest 6 refl g h
 no-data : (n code : ℕ) → 2 ≤ kindOf code → Fair n (plain n code [])
 no-data n code h = plain-fair n code [] (λ e. omega arith) (sym (needs-none n (kindOf code) (λ e. omega arith))) tt
 
-pub after-clear-met : (n : ℕ) (state : List ℕ) → Bytes state → length state ≡ stateLength n → (run : List Sending) → AllFair n run → (g : ℕ) → g < 6
+pub after-clear-met : (n : ℕ) (state : List ℕ) → Bytes state → Sound n state → (run : List Sending) → AllFair n run → (g : ℕ) → g < 6
     → AfterClear n state (plain n clearsCells []) run (plain n (cellRead g) []) g
 unfolding lost readTest
-after-clear-met n state are whole run fair g h =
+after-clear-met n state are sound run fair g h =
     let is-read = eqb-true (kindOf (cellRead g)) 2 (and-left (eqb (kindOf (cellRead g)) 2) (eqb (groupOf (cellRead g)) (2 + g)) (read-tested g h)) in
     record {
       are-bytes = are;
-      whole = whole;
+      sound = sound;
       fair = no-data n clearsCells (omega (arith, is-clear));
       clears = refl;
       acted = unhit-take 4 (quiet n clearsCells) (unhit-zeros (frameLength n (kindOf clearsCells)));

@@ -14,4 +14,5 @@ pub mod ClearedCells
 pub mod WrongHosts
 pub mod WrongChains
 pub mod WrongQuiet
+pub mod WrongPins
 pub mod WrongOrder

@@ -10,11 +10,14 @@ use Rattle.lent.specs.Bytes.{Bytes}
 use Rattle.lent.specs.Refusal.{pick}
 use Rattle.pec.specs.Noise.{noisy, hit}
 use Rattle.pec.proofs.Mask.{bytes-noisy, unhit-same, unhit-zeros}
+use Rattle.frames.specs.Kind.{frameLength}
 use Rattle.frames.proofs.Lookup.{kind-below, group-below}
 use Rattle.frames.proofs.FrameParts.{bytes-frame}
-use Rattle.chain.specs.State.{stateLength}
-use Rattle.chain.proofs.ClearLaws.{clear-room}
-use Rattle.chain.proofs.Obeyed.{length-changed, bytes-changed}
+use Rattle.chain.specs.Dten.{dten}
+use Rattle.chain.specs.State.{stateLength, stored, pin, Sound}
+use Rattle.chain.proofs.StateLaws.{still-sound}
+use Rattle.chain.proofs.ClearLaws.{clear-room, clear-high}
+use Rattle.chain.proofs.Obeyed.{length-changed, pin-changed, bit-changed, bytes-changed}
 use Rattle.host.specs.Reader.{readerBytes, readerMarks}
 use Rattle.host.proofs.ReaderNumbers.{number-7}
 use Rattle.link.specs.Rig.{Served, Handed, ours}
@@ -51,39 +54,59 @@ four (suc (suc (suc zero))) h z = inr (inr (inl refl))
 four (suc (suc (suc (suc zero)))) h z = inr (inr (inr refl))
 four (suc (suc (suc (suc (suc k))))) h z = absurd (omega arith)
 
-module _ (n : ℕ) (n1 : 1 ≤ n) (n16 : n ≤ 16) (s : Sending) (state : List ℕ) (F : Fair n s) (are : Bytes state) (whole : length state ≡ stateLength n) where
+module _ (n : ℕ) (n1 : 1 ≤ n) (n16 : n ≤ 16) (s : Sending) (state : List ℕ) (F : Fair n s) (are : Bytes state) (sound : Sound n state) where
   kinds : (kind s ≡ 1) ⊎ ((kind s ≡ 2) ⊎ ((kind s ≡ 3) ⊎ (kind s ≡ 4)))
   kinds = four (kind s) (kind-below (s .code)) (F .known)
 
   made : step ours n s state .made ≡ 0
   unfolding step
-  made = Arrival.made n n1 n16 s state F whole
+  made = Arrival.made n n1 n16 s state F sound
 
   number : (b : Bool) → lost s ≡ b → step ours n s state .number ≡ pick b 4 0
   unfolding step pick
-  number true e = Arrival.number-lost n n1 n16 s state F whole e
-  number false e = Arrival.number-good n n1 n16 s state F whole e
+  number true e = Arrival.number-lost n n1 n16 s state F sound e
+  number false e = Arrival.number-good n n1 n16 s state F sound e
 
   no-read : (kind s ≡ 2 → ⊥) → (step ours n s state .asked ≡ 7) × (step ours n s state .bytes ≡ s .read) × (step ours n s state .marks ≡ s .marks)
   unfolding step hands readerBytes readerMarks pick
   no-read other =
       let e : hands ours n s state .number ≡ 7 =
-      number-7 n (s .code) (length (returns ours n s state)) (length (s .read)) (length (s .marks)) (Arrival.inside n n1 n16 s state F whole) (kind s) refl (F .known) other in
+      number-7 n (s .code) (length (returns ours n s state)) (length (s .read)) (length (s .marks)) (Arrival.inside n n1 n16 s state F sound) (kind s) refl (F .known) other in
       (e, ap (λ (a : ℕ). readerBytes a n (returns ours n s state) (s .read)) e, ap (λ (a : ℕ). readerMarks a n (returns ours n s state) (s .marks)) e)
 
-  pub size : length (step ours n s state .registers) ≡ stateLength n
+  -- the length, the pins and the stored DTEN stay
+  g18 : group s < 18
+  g18 = group-below (s .code)
+
+  long : length (arrives ours n s) ≡ frameLength n (kind s)
+  long = Arrival.arrives-long n n1 n16 s state F sound
+
+  size : length (step ours n s state .registers) ≡ stateLength n
   size =
-      Arrival.holds n n1 n16 s state F whole (λ (r : List ℕ). length r ≡ stateLength n) whole
-      (length-changed n (kind s) (group s) (arrives ours n s) state (group-below (s .code)) (Arrival.arrives-long n n1 n16 s state F whole) (clear-room (s .code)) whole)
+      Arrival.holds n n1 n16 s state F sound (λ (r : List ℕ). length r ≡ stateLength n) (sound .whole)
+      (length-changed n (kind s) (group s) (arrives ours n s) state g18 long (clear-room (s .code)) (sound .whole))
+
+  pins : (k : ℕ) → k < n → pin k (step ours n s state .registers) ≡ pin k state
+  pins k h =
+      Arrival.holds n n1 n16 s state F sound (λ (r : List ℕ). pin k r ≡ pin k state) refl
+      (pin-changed n (kind s) (group s) (arrives ours n s) state g18 long (clear-room (s .code)) (sound .whole) k)
+
+  bits : (k : ℕ) → k < n → dten (stored k 0 (step ours n s state .registers)) ≡ dten (stored k 0 state)
+  bits k h =
+      Arrival.holds n n1 n16 s state F sound (λ (r : List ℕ). dten (stored k 0 r) ≡ dten (stored k 0 state)) refl
+      (bit-changed n (kind s) (group s) (arrives ours n s) state g18 long (clear-room (s .code)) (sound .whole) (clear-high (s .code)) k h)
+
+  pub stays-sound : Sound n (step ours n s state .registers)
+  stays-sound = still-sound n state (step ours n s state .registers) sound size pins
 
   arrives-bytes : Bytes (arrives ours n s)
   unfolding arrives
   arrives-bytes =
       bytes-noisy (s .forth) (frame ours n s) (F .forth-bytes)
-      (subst Bytes (sym (Arrival.frame-is n n1 n16 s state F whole)) (bytes-frame n (s .code) (s .bytes) (F .known) (F .are-bytes)))
+      (subst Bytes (sym (Arrival.frame-is n n1 n16 s state F sound)) (bytes-frame n (s .code) (s .bytes) (F .known) (F .are-bytes)))
 
   pub are-bytes : Bytes (step ours n s state .registers)
-  are-bytes = Arrival.holds n n1 n16 s state F whole Bytes are (bytes-changed n (kind s) (group s) (arrives ours n s) state arrives-bytes are)
+  are-bytes = Arrival.holds n n1 n16 s state F sound Bytes are (bytes-changed n (kind s) (group s) (arrives ours n s) state arrives-bytes are)
 
   pub obeys : Obeys ours n s state (step ours n s state)
   obeys = record {
@@ -91,11 +114,13 @@ module _ (n : ℕ) (n1 : 1 ≤ n) (n16 : n ≤ 16) (s : Sending) (state : List �
     number = number (lost s) refl;
     size = size;
     are-bytes = are-bytes;
+    pins = pins;
+    bits = bits;
     kinds = kinds;
-    write = λ w. writes n n1 n16 s state F whole w;
-    read = λ q. reads n n1 n16 s state F are whole q;
-    clear = λ c. clears n n1 n16 s state F whole c;
-    conversion = λ c. converts n n1 n16 s state F whole c;
+    write = λ w. writes n n1 n16 s state F sound w;
+    read = λ q. reads n n1 n16 s state F are sound q;
+    clear = λ c. clears n n1 n16 s state F sound c;
+    conversion = λ c. converts n n1 n16 s state F sound c;
     no-read = no-read;
     unhit = unhit n s state;
   }

@@ -26,9 +26,9 @@ use Rattle.frames.specs.Places.{six, eight}
 use Rattle.frames.proofs.Lookup.{group-below}
 use Rattle.frames.proofs.KindCases.{length-long}
 use Rattle.frames.proofs.GroupLaws.{six-front}
-use Rattle.chain.specs.State.{stateLength, stored}
+use Rattle.chain.specs.State.{shown, Sound}
 use Rattle.chain.specs.Effect.{silence, answers, answer, changed, report}
-use Rattle.chain.proofs.StateLaws.{length-stored, bytes-stored}
+use Rattle.chain.proofs.StateLaws.{length-shown, bytes-shown}
 use Rattle.chain.proofs.ClearLaws.{length-silence, part-silence}
 use Rattle.chain.proofs.ReadLaws.{length-answers, eight-answers}
 use Rattle.host.specs.Marks.{markOf, bytesOf}
@@ -92,7 +92,7 @@ pub six-over : (new old : List ℕ) (k : ℕ) → 6 * k + 6 ≤ length new → s
 unfolding over
 six-over new old k h = six-front k new (drop (length new) old) h
 
-module _ (n : ℕ) (n1 : 1 ≤ n) (n16 : n ≤ 16) (s : Sending) (state : List ℕ) (F : Fair n s) (are : Bytes state) (whole : length state ≡ stateLength n) (q : kind s ≡ 2) where
+module _ (n : ℕ) (n1 : 1 ≤ n) (n16 : n ≤ 16) (s : Sending) (state : List ℕ) (F : Fair n s) (are : Bytes state) (sound : Sound n state) (q : kind s ≡ 2) where
   g18 : group s < 18
   g18 = group-below (s .code)
 
@@ -108,10 +108,10 @@ module _ (n : ℕ) (n1 : 1 ≤ n) (n16 : n ≤ 16) (s : Sending) (state : List �
   unfolding returns
   returns-lost e =
       unhit-same (s .back) (take (length (frame ours n s)) (serves ours n s state .reply)) (quiet-back e)
-      ∙ ap (take (length (frame ours n s))) (Arrival.reply-lost n n1 n16 s state F whole e)
+      ∙ ap (take (length (frame ours n s))) (Arrival.reply-lost n n1 n16 s state F sound e)
       ∙ take-over (silence (length (arrives ours n s))) (s .reply) (length (frame ours n s))
-      (length-silence (length (arrives ours n s)) ∙ Arrival.arrives-long n n1 n16 s state F whole ∙ sym (Arrival.frame-long n n1 n16 s state F whole))
-      ∙ ap silence (Arrival.arrives-long n n1 n16 s state F whole ∙ long)
+      (length-silence (length (arrives ours n s)) ∙ Arrival.arrives-long n n1 n16 s state F sound ∙ sym (Arrival.frame-long n n1 n16 s state F sound))
+      ∙ ap silence (Arrival.arrives-long n n1 n16 s state F sound ∙ long)
 
   abbrev answered : List ℕ
   answered = silence 4 ++ answers n (group s) state
@@ -122,14 +122,14 @@ module _ (n : ℕ) (n1 : 1 ≤ n) (n16 : n ≤ 16) (s : Sending) (state : List �
 
   answered-long : length answered ≡ 4 + 8 * n
   answered-long =
-      length-append (silence 4) (answers n (group s) state) ∙ omega (arith, length-silence 4, length-answers n (group s) state g18 whole n (omega arith))
+      length-append (silence 4) (answers n (group s) state) ∙ omega (arith, length-silence 4, length-answers n (group s) state g18 (sound .whole) n (omega arith))
 
   returns-good : lost s ≡ false → returns ours n s state ≡ noisy (s .back) answered
   unfolding returns
   returns-good e =
       ap (λ (l : List ℕ). noisy (s .back) (take (length (frame ours n s)) l))
-      (Arrival.reply-good n n1 n16 s state F whole e ∙ ap (λ (l : List ℕ). over l (s .reply)) answer-read)
-      ∙ ap (noisy (s .back)) (take-over answered (s .reply) (length (frame ours n s)) (answered-long ∙ sym (Arrival.frame-long n n1 n16 s state F whole ∙ long)))
+      (Arrival.reply-good n n1 n16 s state F sound e ∙ ap (λ (l : List ℕ). over l (s .reply)) answer-read)
+      ∙ ap (noisy (s .back)) (take-over answered (s .reply) (length (frame ours n s)) (answered-long ∙ sym (Arrival.frame-long n n1 n16 s state F sound ∙ long)))
 
   pub returns-long : length (returns ours n s state) ≡ 4 + 8 * n
   returns-long = go (lost s) refl
@@ -142,7 +142,7 @@ module _ (n : ℕ) (n1 : 1 ≤ n) (n16 : n ≤ 16) (s : Sending) (state : List �
   pub accepted : hands ours n s state .number ≡ 0
   unfolding hands
   accepted =
-      number-0 n (s .code) (length (returns ours n s state)) (length (s .read)) (length (s .marks)) (Arrival.inside n n1 n16 s state F whole) (kind s) refl (F .known) q
+      number-0 n (s .code) (length (returns ours n s state)) (length (s .read)) (length (s .marks)) (Arrival.inside n n1 n16 s state F sound) (kind s) refl (F .known) q
       returns-long (F .read-room q) (F .marks-room q)
 
   pub marks-given : hands ours n s state .marks ≡ over (allMarks n (returns ours n s state)) (s .marks)
@@ -160,9 +160,9 @@ module _ (n : ℕ) (n1 : 1 ≤ n) (n16 : n ≤ 16) (s : Sending) (state : List �
   eight-lost : lost s ≡ true → (k : ℕ) → k < n → eight k (returns ours n s state) ≡ silence 8
   eight-lost e k h = ap (eight k) (returns-lost e) ∙ eight-silence n k h
 
-  eight-good : lost s ≡ false → (k : ℕ) → k < n → eight k (returns ours n s state) ≡ noisy (eight k (s .back)) (withPec (stored k (group s) state))
+  eight-good : lost s ≡ false → (k : ℕ) → k < n → eight k (returns ours n s state) ≡ noisy (eight k (s .back)) (withPec (shown k (group s) state))
   eight-good e k h =
-      ap (eight k) (returns-good e) ∙ eight-noisy k (s .back) answered ∙ ap (noisy (eight k (s .back))) (eight-answers n (group s) state g18 whole k h)
+      ap (eight k) (returns-good e) ∙ eight-noisy k (s .back) answered ∙ ap (noisy (eight k (s .back))) (eight-answers n (group s) state g18 (sound .whole) k h)
 
   mask-bytes : (k : ℕ) → Bytes (eight k (s .back))
   unfolding eight
@@ -171,21 +171,21 @@ module _ (n : ℕ) (n1 : 1 ≤ n) (n16 : n ≤ 16) (s : Sending) (state : List �
   mask-long : (k : ℕ) → k < n → length (eight k (s .back)) ≡ 8
   mask-long k h = length-eight k (s .back) (omega (arith, F .back-long, long))
 
-  own-six : (k : ℕ) → k < n → length (stored k (group s) state) ≡ 6
-  own-six k h = length-stored n k (group s) state h g18 whole
+  own-six : (k : ℕ) → k < n → length (shown k (group s) state) ≡ 6
+  own-six k h = length-shown n k (group s) state h g18 (sound .whole)
 
   mark-of : (b : Bool) → lost s ≡ b → (k : ℕ) → k < n → eqb (markOf (eight k (returns ours n s state))) 0 ≡ not (b || hit (eight k (s .back)))
   mark-of true e k h = ap (λ (l : List ℕ). eqb (markOf l) 0) (eight-lost e k h) ∙ ap (λ (i : ℕ). eqb i 0) silence-marked
   mark-of false e k h =
       ap (λ (l : List ℕ). eqb (markOf l) 0) (eight-good e k h)
-      ∙ mark-through (stored k (group s) state) (eight k (s .back)) (own-six k h) (bytes-stored k (group s) state are) (mask-bytes k) (mask-long k h) (F .replies q k h)
+      ∙ mark-through (shown k (group s) state) (eight k (s .back)) (own-six k h) (bytes-shown k (group s) state (sound .pins k h) are) (mask-bytes k) (mask-long k h) (F .replies q k h)
 
   bytes-of : (b : Bool) → lost s ≡ b → (k : ℕ) → k < n
-      → bytesOf (eight k (returns ours n s state)) ≡ pick (b || hit (eight k (s .back))) (replicate 6 0) (stored k (group s) state)
-  bytes-of true e k h = ap bytesOf (eight-lost e k h) ∙ silence-bytes ∙ sym (pick-true true (replicate 6 0) (stored k (group s) state) refl)
+      → bytesOf (eight k (returns ours n s state)) ≡ pick (b || hit (eight k (s .back))) (replicate 6 0) (shown k (group s) state)
+  bytes-of true e k h = ap bytesOf (eight-lost e k h) ∙ silence-bytes ∙ sym (pick-true true (replicate 6 0) (shown k (group s) state) refl)
   bytes-of false e k h =
       ap bytesOf (eight-good e k h)
-      ∙ bytes-through (stored k (group s) state) (eight k (s .back)) (own-six k h) (bytes-stored k (group s) state are) (mask-bytes k) (mask-long k h) (F .replies q k h)
+      ∙ bytes-through (shown k (group s) state) (eight k (s .back)) (own-six k h) (bytes-shown k (group s) state (sound .pins k h) are) (mask-bytes k) (mask-long k h) (F .replies q k h)
 
   mark : (k : ℕ) → k < n → eqb (getD (step ours n s state .marks) k 0) 0 ≡ not (unread s k)
   unfolding step unread
@@ -195,7 +195,7 @@ module _ (n : ℕ) (n1 : 1 ≤ n) (n16 : n ≤ 16) (s : Sending) (state : List �
       (getD-over (allMarks n (returns ours n s state)) (s .marks) k (omega (arith, length-allMarks n (returns ours n s state))) ∙ mark-at n k (returns ours n s state) h)
       ∙ mark-of (lost s) refl k h
 
-  bytes : (k : ℕ) → k < n → six k (step ours n s state .bytes) ≡ pick (unread s k) (replicate 6 0) (stored k (group s) state)
+  bytes : (k : ℕ) → k < n → six k (step ours n s state .bytes) ≡ pick (unread s k) (replicate 6 0) (shown k (group s) state)
   unfolding step unread
   bytes k h =
       ap (six k) bytes-given
@@ -207,13 +207,13 @@ module _ (n : ℕ) (n1 : 1 ≤ n) (n16 : n ≤ 16) (s : Sending) (state : List �
   kept = go (lost s) refl
     where
       go : (b : Bool) → lost s ≡ b → step ours n s state .registers ≡ state
-      go true e = Arrival.state-lost n n1 n16 s state F whole e
-      go false e = Arrival.state-good n n1 n16 s state F whole e ∙ (unfold changed pick in rw q)
+      go true e = Arrival.state-lost n n1 n16 s state F sound e
+      go false e = Arrival.state-good n n1 n16 s state F sound e ∙ (unfold changed pick in rw q)
 
   word : (b : Bool) → lost s ≡ b → step ours n s state .word ≡ 0
   unfolding report pick
-  word true e = Arrival.word-lost n n1 n16 s state F whole e
-  word false e = Arrival.word-good n n1 n16 s state F whole e ∙ rw q
+  word true e = Arrival.word-lost n n1 n16 s state F sound e
+  word false e = Arrival.word-good n n1 n16 s state F sound e ∙ rw q
 
   asked : step ours n s state .asked ≡ 0
   unfolding step

@@ -21,16 +21,18 @@ use Rattle.frames.proofs.Lookup.{group-below}
 use Rattle.frames.proofs.KindCases.{needs-data, length-long}
 use Rattle.frames.proofs.GroupLaws.{length-six}
 use Rattle.frames.proofs.FrameParts.{wire-frame, bytes-six}
-use Rattle.chain.specs.State.{stateLength, stored}
+use Rattle.chain.specs.Dten.{withDten}
+use Rattle.chain.specs.State.{pin, shown, Sound}
 use Rattle.chain.specs.Effect.{written, storedBits, changed, report}
-use Rattle.chain.proofs.WriteLaws.{length-wire, written-own, written-other}
+use Rattle.chain.proofs.StateLaws.{shown-alike}
+use Rattle.chain.proofs.WriteLaws.{length-wire, written-other, written-pin, written-shown}
 use Rattle.link.specs.Rig.{ours}
 use Rattle.link.specs.Sending.{Sending, kind, group, Fair}
 use Rattle.link.specs.Step.{frame, arrives, step}
 use Rattle.link.specs.Promise.{lost, missed, Writes}
 use Rattle.link.proofs.Arrival as Arrival
 
-module _ (n : ℕ) (n1 : 1 ≤ n) (n16 : n ≤ 16) (s : Sending) (state : List ℕ) (F : Fair n s) (whole : length state ≡ stateLength n) (w : kind s ≡ 1) where
+module _ (n : ℕ) (n1 : 1 ≤ n) (n16 : n ≤ 16) (s : Sending) (state : List ℕ) (F : Fair n s) (sound : Sound n state) (w : kind s ≡ 1) where
   g18 : group s < 18
   g18 = group-below (s .code)
 
@@ -38,7 +40,7 @@ module _ (n : ℕ) (n1 : 1 ≤ n) (n16 : n ≤ 16) (s : Sending) (state : List �
   long-kind = omega arith
 
   arrives-long : length (arrives ours n s) ≡ 4 + 8 * n
-  arrives-long = Arrival.arrives-long n n1 n16 s state F whole ∙ length-long n (kind s) long-kind
+  arrives-long = Arrival.arrives-long n n1 n16 s state F sound ∙ length-long n (kind s) long-kind
 
   pub bytes-long : length (s .bytes) ≡ 6 * n
   bytes-long = F .needed ∙ needs-data n (kind s) w
@@ -49,7 +51,7 @@ module _ (n : ℕ) (n1 : 1 ≤ n) (n16 : n ≤ 16) (s : Sending) (state : List �
   wire-arrives k h =
       part-noisy 8 (4 + 8 * (n - 1 - k)) (s .forth) (frame ours n s)
       ∙ ap (noisy (take 8 (drop (4 + 8 * (n - 1 - k)) (s .forth))))
-      (ap (λ (l : List ℕ). take 8 (drop (4 + 8 * (n - 1 - k)) l)) (Arrival.frame-is n n1 n16 s state F whole) ∙ wire-frame n k (s .code) (s .bytes) w h bytes-long)
+      (ap (λ (l : List ℕ). take 8 (drop (4 + 8 * (n - 1 - k)) l)) (Arrival.frame-is n n1 n16 s state F sound) ∙ wire-frame n k (s .code) (s .bytes) w h bytes-long)
 
   own-six : (k : ℕ) → k < n → length (six k (s .bytes)) ≡ 6
   own-six k h = length-six k (s .bytes) (omega (arith, bytes-long))
@@ -74,35 +76,40 @@ module _ (n : ℕ) (n1 : 1 ≤ n) (n16 : n ≤ 16) (s : Sending) (state : List �
   -- registers and word where the command was not hit
   state-write : lost s ≡ false → step ours n s state .registers ≡ written n n (group s) (arrives ours n s) state
   unfolding changed pick
-  state-write e = Arrival.state-good n n1 n16 s state F whole e ∙ rw w
+  state-write e = Arrival.state-good n n1 n16 s state F sound e ∙ rw w
 
   pub word-write : lost s ≡ false → step ours n s state .word ≡ storedBits n n (arrives ours n s)
   unfolding report pick
-  word-write e = Arrival.word-good n n1 n16 s state F whole e ∙ rw w
+  word-write e = Arrival.word-good n n1 n16 s state F sound e ∙ rw w
 
   own : (b : Bool) → lost s ≡ b → (k : ℕ) → k < n
-      → stored k (group s) (step ours n s state .registers) ≡ pick (b || hit (wire n k (s .forth))) (stored k (group s) state) (six k (s .bytes))
+      → shown k (group s) (step ours n s state .registers)
+      ≡ pick (b || hit (wire n k (s .forth))) (shown k (group s) state) (withDten (group s) (pin k state) (six k (s .bytes)))
   unfolding pick
-  own true e k h = ap (stored k (group s)) (Arrival.state-lost n n1 n16 s state F whole e)
+  own true e k h = ap (shown k (group s)) (Arrival.state-lost n n1 n16 s state F sound e)
   own false e k h =
-      ap (stored k (group s)) (state-write e)
-      ∙ written-own n (group s) (arrives ours n s) state g18 arrives-long whole n k (omega arith) h
-      ∙ ap (λ (b : Bool). pick b (take 6 (wire n k (arrives ours n s))) (stored k (group s) state)) (wire-right k h)
+      ap (shown k (group s)) (state-write e)
+      ∙ written-shown n (group s) (arrives ours n s) state g18 arrives-long (sound .whole) k h
+      ∙ ap (λ (b : Bool). pick b (withDten (group s) (pin k state) (take 6 (wire n k (arrives ours n s)))) (shown k (group s) state)) (wire-right k h)
       ∙ by-hit (hit (wire n k (s .forth))) refl
     where
       by-hit : (b : Bool) → hit (wire n k (s .forth)) ≡ b
-          → pick (not b) (take 6 (wire n k (arrives ours n s))) (stored k (group s) state) ≡ pick b (stored k (group s) state) (six k (s .bytes))
+          → pick (not b) (withDten (group s) (pin k state) (take 6 (wire n k (arrives ours n s)))) (shown k (group s) state)
+          ≡ pick b (shown k (group s) state) (withDten (group s) (pin k state) (six k (s .bytes)))
       by-hit true q = refl
-      by-hit false q = new-bytes k h q
+      by-hit false q = ap (withDten (group s) (pin k state)) (new-bytes k h q)
 
-  others : (b : Bool) → lost s ≡ b → (k h : ℕ) → k < n → h < 18 → (h ≡ group s → ⊥) → stored k h (step ours n s state .registers) ≡ stored k h state
-  others true e k h lk lh ne = ap (stored k h) (Arrival.state-lost n n1 n16 s state F whole e)
+  others : (b : Bool) → lost s ≡ b → (k h : ℕ) → k < n → h < 18 → (h ≡ group s → ⊥) → shown k h (step ours n s state .registers) ≡ shown k h state
+  others true e k h lk lh ne = ap (shown k h) (Arrival.state-lost n n1 n16 s state F sound e)
   others false e k h lk lh ne =
-      ap (stored k h) (state-write e) ∙ written-other n (group s) (arrives ours n s) state g18 arrives-long whole n k h (omega arith) lh (λ x y. ne y)
+      ap (shown k h) (state-write e)
+      ∙ shown-alike k h (written n n (group s) (arrives ours n s) state) state
+      (written-other n (group s) (arrives ours n s) state g18 arrives-long (sound .whole) n k h (omega arith) lh (λ x y. ne y))
+      (written-pin n (group s) (arrives ours n s) state g18 arrives-long (sound .whole) n k (omega arith))
 
   word : (b : Bool) → lost s ≡ b → (k : ℕ) → k < n → step ours n s state .word / 2 ^ k % 2 ≡ pick (b || hit (wire n k (s .forth))) 0 1
   unfolding pick storedBits
-  word true e k h = ap (λ (x : ℕ). x / 2 ^ k % 2) (Arrival.word-lost n n1 n16 s state F whole e) ∙ bit-zero k
+  word true e k h = ap (λ (x : ℕ). x / 2 ^ k % 2) (Arrival.word-lost n n1 n16 s state F sound e) ∙ bit-zero k
   word false e k h =
       ap (λ (x : ℕ). x / 2 ^ k % 2) (word-write e)
       ∙ bits-at (λ (i : ℕ). right (wire n i (arrives ours n s))) n k h
@@ -111,7 +118,7 @@ module _ (n : ℕ) (n1 : 1 ≤ n) (n16 : n ≤ 16) (s : Sending) (state : List �
 
   no-more : (b : Bool) → lost s ≡ b → step ours n s state .word < 2 ^ n
   unfolding storedBits
-  no-more true e = subst (λ (x : ℕ). x < 2 ^ n) (sym (Arrival.word-lost n n1 n16 s state F whole e)) (pow-pos n)
+  no-more true e = subst (λ (x : ℕ). x < 2 ^ n) (sym (Arrival.word-lost n n1 n16 s state F sound e)) (pow-pos n)
   no-more false e = subst (λ (x : ℕ). x < 2 ^ n) (sym (word-write e)) (bits-below (λ (i : ℕ). right (wire n i (arrives ours n s))) n)
 
   pub writes : Writes n s state (step ours n s state)

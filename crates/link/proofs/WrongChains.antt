@@ -20,7 +20,8 @@ use Rattle.frames.specs.Commands.{rows, found, kindOf, groupOf}
 use Rattle.frames.specs.Places.{six, wire}
 use Rattle.frames.specs.Frame.{writeGroups, frameBody, frameOf}
 use Rattle.frames.specs.Writer.{writerNumber, writerLength, writerOut}
-use Rattle.chain.specs.State.{stateLength, spot, stored, storing}
+use Rattle.chain.specs.Dten.{dten, withBit, withDten}
+use Rattle.chain.specs.State.{stateLength, spot, pinSpot, stored, pin, shown, storing, pinAbove}
 use Rattle.chain.specs.Effect.{written, storedBits, changed, report}
 use Rattle.chain.specs.Chain.{codeOf, chainNumber, chainWord, chainState}
 use Rattle.link.specs.Rig.{Rig, ours}
@@ -29,21 +30,21 @@ use Rattle.link.specs.Step.{frame, arrives, serves, step}
 use Rattle.link.specs.Promise.{lost, missed}
 use Rattle.link.specs.Demands.{Demand3}
 use Rattle.link.proofs.FairFrames.{plain, commandHit, groupHit, cfga-write, cfga-group, write-fair, write-lost-fair, write-hit-fair}
-use Rattle.link.proofs.WrongHosts.{one}
+use Rattle.link.proofs.WrongHosts.{full, one}
 
--- The first byte that a write of group 0 leaves in device k + 1 is what the demand says.
+-- The first byte that a write of group 0 leaves in device k + 1, as it reads, is what the demand says.
 pub first-byte : (R : Rig) → Demand3 R → (n : ℕ) → 1 ≤ n → n ≤ 16 → (s : Sending) → Fair n s → kind s ≡ 1 → group s ≡ 0 → (k : ℕ) → k < n → (x y : ℕ)
-    → getD (stored k 0 (step R n s (replicate (108 * n) 7) .registers)) 0 0 ≡ x
-    → getD (pick (missed n s k) (stored k 0 (replicate (108 * n) 7)) (six k (s .bytes))) 0 0 ≡ y → x ≡ y
+    → getD (shown k 0 (step R n s (full n) .registers)) 0 0 ≡ x
+    → getD (pick (missed n s k) (shown k 0 (full n)) (withDten 0 (pin k (full n)) (six k (s .bytes)))) 0 0 ≡ y → x ≡ y
 first-byte R d n a b s F w g k h x y p q =
     sym p
     ∙ ap (λ (l : List ℕ). getD l 0 0)
-    (subst (λ (i : ℕ). stored k i (step R n s (replicate (108 * n) 7) .registers) ≡ pick (missed n s k) (stored k i (replicate (108 * n) 7)) (six k (s .bytes))) g
+    (subst (λ (i : ℕ). shown k i (step R n s (full n) .registers) ≡ pick (missed n s k) (shown k i (full n)) (withDten i (pin k (full n)) (six k (s .bytes)))) g
     (one R d n a b s F .write w .own k h))
     ∙ q
 
 -- ours but for the registers, of which f makes others
-abbrev withRegisters : (ℕ → List ℕ → List ℕ → List ℕ → List ℕ) → Rig
+abbrev pub withRegisters : (ℕ → List ℕ → List ℕ → List ℕ → List ℕ) → Rig
 withRegisters f = record {
   writer = ours .writer;
   chain = λ n frame state reply. record {
@@ -61,7 +62,7 @@ forgetting = withRegisters (λ n frame state reply. state)
 
 -- IT SERVES DEVICE 1, and only claims the rest in its word
 abbrev pub claiming : Rig
-claiming = withRegisters (λ n frame state reply. take 108 (ours .chain n frame state reply .registers) ++ drop 108 state)
+claiming = withRegisters (λ n frame state reply. take 109 (ours .chain n frame state reply .registers) ++ drop 109 state)
 
 -- IT DROPS A WHOLE WRITE because one group is wrong
 abbrev dropping : Rig
@@ -98,35 +99,35 @@ hurt n k = groupHit n 1 (replicate (6 * n) 5) k
 pub hurt-fair : (n k : ℕ) → k < n → Fair n (hurt n k)
 hurt-fair n k h = write-hit-fair n (replicate (6 * n) 5) (length-replicate {A = ℕ} (6 * n) 5) (bytes-replicate (6 * n) 5 (omega arith)) k h
 
--- What each stores: device 1 of one nothing, device 2 of two nothing, device 1 of two nothing as device 2's group is wrong, and device 3 of three a byte
--- that was never sent to it.
-pub stores : (getD (stored 0 0 (step forgetting 1 (put 1) (replicate 108 7) .registers)) 0 0 ≡ 7)
-    × (getD (stored 1 0 (step claiming 2 (put 2) (replicate 216 7) .registers)) 0 0 ≡ 7)
-    × (getD (stored 0 0 (step dropping 2 (hurt 2 1) (replicate 216 7) .registers)) 0 0 ≡ 7)
-    × (getD (stored 2 0 (step generous 3 (hurt 3 2) (replicate 324 7) .registers)) 0 0 ≡ 4)
-unfolding step serves arrives frame noisy splice stored storing spot wire written changed chainNumber chainWord chainState report storedBits bitsWhere first pick outside right offBy sent body codeOf stateLength frameLength kindOf groupOf rows found writerNumber writerLength writerOut dataNeeded frameOf frameBody writeGroups withPec six twoBytes over pecOf remainderOf Register.step
+-- What each stores, as it reads (5 reads as 7, and what was there as 3): device 1 of one nothing, device 2 of two nothing, device 1 of two nothing as device 2's
+-- group is wrong, and device 3 of three a byte that was never sent to it, 4, which reads as 6.
+pub stores : (getD (shown 0 0 (step forgetting 1 (put 1) (full 1) .registers)) 0 0 ≡ 3)
+    × (getD (shown 1 0 (step claiming 2 (put 2) (full 2) .registers)) 0 0 ≡ 3)
+    × (getD (shown 0 0 (step dropping 2 (hurt 2 1) (full 2) .registers)) 0 0 ≡ 3)
+    × (getD (shown 2 0 (step generous 3 (hurt 3 2) (full 3) .registers)) 0 0 ≡ 6)
+unfolding step serves arrives frame noisy splice stored storing spot shown pin pinSpot withDten withBit dten pinAbove wire written changed chainNumber chainWord chainState report storedBits bitsWhere first pick outside right offBy sent body codeOf stateLength frameLength kindOf groupOf rows found writerNumber writerLength writerOut dataNeeded frameOf frameBody writeGroups withPec six twoBytes over pecOf remainderOf Register.step
 stores = (refl, refl, refl, refl)
 
 pub forgetting-fails : Demand3 forgetting → ⊥
-unfolding missed lost hit wire kindOf rows found frameLength pick six
+unfolding missed lost hit wire kindOf rows found frameLength pick six pin pinSpot withDten withBit
 forgetting-fails d =
-    let e = first-byte forgetting d 1 (omega arith) (omega arith) (put 1) (put-fair 1) cfga-write cfga-group 0 (omega arith) 7 5 (stores .0) refl in omega arith
+    let e = first-byte forgetting d 1 (omega arith) (omega arith) (put 1) (put-fair 1) cfga-write cfga-group 0 (omega arith) 3 7 (stores .0) refl in omega arith
 
 pub claiming-fails : Demand3 claiming → ⊥
-unfolding missed lost hit wire kindOf rows found frameLength pick six
+unfolding missed lost hit wire kindOf rows found frameLength pick six pin pinSpot withDten withBit
 claiming-fails d =
-    let e = first-byte claiming d 2 (omega arith) (omega arith) (put 2) (put-fair 2) cfga-write cfga-group 1 (omega arith) 7 5 (stores .1) refl in omega arith
+    let e = first-byte claiming d 2 (omega arith) (omega arith) (put 2) (put-fair 2) cfga-write cfga-group 1 (omega arith) 3 7 (stores .1) refl in omega arith
 
 pub dropping-fails : Demand3 dropping → ⊥
-unfolding missed lost hit wire kindOf rows found frameLength pick six
+unfolding missed lost hit wire kindOf rows found frameLength pick six pin pinSpot withDten withBit
 dropping-fails d =
-    let e = first-byte dropping d 2 (omega arith) (omega arith) (hurt 2 1) (hurt-fair 2 1 (omega arith)) cfga-write cfga-group 0 (omega arith) 7 5 (stores .2) refl in
+    let e = first-byte dropping d 2 (omega arith) (omega arith) (hurt 2 1) (hurt-fair 2 1 (omega arith)) cfga-write cfga-group 0 (omega arith) 3 7 (stores .2) refl in
     omega arith
 
 pub generous-fails : Demand3 generous → ⊥
-unfolding missed lost hit wire kindOf rows found frameLength pick stored spot
+unfolding missed lost hit wire kindOf rows found frameLength pick stored spot shown pin pinSpot withDten withBit
 generous-fails d =
-    let e = first-byte generous d 3 (omega arith) (omega arith) (hurt 3 2) (hurt-fair 3 2 (omega arith)) cfga-write cfga-group 2 (omega arith) 4 7 (stores .3) refl in
+    let e = first-byte generous d 3 (omega arith) (omega arith) (hurt 3 2) (hurt-fair 3 2 (omega arith)) cfga-write cfga-group 2 (omega arith) 6 3 (stores .3) refl in
     omega arith
 
 -- IT COMPARES ONLY 15 BITS of the command's check word
@@ -139,8 +140,8 @@ lax = record { writer = ours .writer; chain = λ n frame state reply. ours .chai
 abbrev clipped : Sending
 clipped = commandHit 1 1 (replicate 6 5)
 
-lax-accepts : step lax 1 clipped (replicate 108 7) .number ≡ 0
-unfolding step serves arrives frame noisy chainNumber first pick outside right offBy sent body codeOf stateLength frameLength kindOf rows found writerNumber writerLength writerOut dataNeeded frameOf frameBody writeGroups withPec six twoBytes over pecOf remainderOf Register.step
+lax-accepts : step lax 1 clipped (full 1) .number ≡ 0
+unfolding step serves arrives frame noisy pin pinSpot pinAbove chainNumber first pick outside right offBy sent body codeOf stateLength frameLength kindOf rows found writerNumber writerLength writerOut dataNeeded frameOf frameBody writeGroups withPec six twoBytes over pecOf remainderOf Register.step
 lax-accepts = refl
 
 pub lax-fails : Demand3 lax → ⊥

@@ -18,7 +18,8 @@ use Rattle.frames.specs.Commands.{rows, found, kindOf, groupOf}
 use Rattle.frames.specs.Places.{six, wire}
 use Rattle.frames.specs.Frame.{writeGroups, frameBody, frameOf}
 use Rattle.frames.specs.Writer.{writerNumber, writerLength, writerOut}
-use Rattle.chain.specs.State.{stateLength, spot, stored, storing}
+use Rattle.chain.specs.Dten.{dten, withBit, withDten}
+use Rattle.chain.specs.State.{stateLength, spot, pinSpot, stored, pin, shown, storing, pinAbove}
 use Rattle.chain.specs.Effect.{written, changed}
 use Rattle.chain.specs.Chain.{codeOf, chainNumber, chainState}
 use Rattle.link.specs.Rig.{Rig, ours}
@@ -27,6 +28,7 @@ use Rattle.link.specs.Step.{frame, arrives, serves, step}
 use Rattle.link.specs.Promise.{lost, missed}
 use Rattle.link.specs.Demands.{Demand3}
 use Rattle.link.proofs.FairFrames.{plain, cfga-write, cfga-group, write-fair}
+use Rattle.link.proofs.WrongHosts.{full}
 use Rattle.link.proofs.WrongChains.{first-byte, hurt, hurt-fair}
 
 -- the groups of two devices exchanged
@@ -60,19 +62,19 @@ both-fair =
     write-fair 2 (replicate 6 5 ++ replicate 6 6) refl
     (bytes-append (replicate 6 5) (replicate 6 6) (bytes-replicate 6 5 (omega arith)) (bytes-replicate 6 6 (omega arith)))
 
--- device 1 stores what was sent to device 2; and it keeps what it had where device 2's group was hit
-stores : (getD (stored 0 0 (step backward 2 both (replicate 216 7) .registers)) 0 0 ≡ 6)
-    × (getD (stored 0 0 (step swapped 2 (hurt 2 1) (replicate 216 7) .registers)) 0 0 ≡ 7)
-unfolding step serves arrives frame noisy splice stored storing spot wire written changed chainNumber chainState first pick outside right offBy sent body codeOf stateLength frameLength kindOf groupOf rows found writerNumber writerLength writerOut dataNeeded frameOf frameBody writeGroups withPec six twoBytes over pecOf remainderOf Register.step
+-- device 1 stores what was sent to device 2, 6, where 5 would read as 7; and it keeps what it had, 3, where device 2's group was hit
+stores : (getD (shown 0 0 (step backward 2 both (full 2) .registers)) 0 0 ≡ 6)
+    × (getD (shown 0 0 (step swapped 2 (hurt 2 1) (full 2) .registers)) 0 0 ≡ 3)
+unfolding step serves arrives frame noisy splice stored storing spot shown pin pinSpot withDten withBit dten pinAbove wire written changed chainNumber chainState first pick outside right offBy sent body codeOf stateLength frameLength kindOf groupOf rows found writerNumber writerLength writerOut dataNeeded frameOf frameBody writeGroups withPec six twoBytes over pecOf remainderOf Register.step
 stores = (refl, refl)
 
 pub backward-fails : Demand3 backward → ⊥
-unfolding missed lost hit wire kindOf rows found frameLength pick six
+unfolding missed lost hit wire kindOf rows found frameLength pick six pin pinSpot withDten withBit
 backward-fails d =
-    let e = first-byte backward d 2 (omega arith) (omega arith) both both-fair cfga-write cfga-group 0 (omega arith) 6 5 (stores .0) refl in omega arith
+    let e = first-byte backward d 2 (omega arith) (omega arith) both both-fair cfga-write cfga-group 0 (omega arith) 6 7 (stores .0) refl in omega arith
 
 pub swapped-fails : Demand3 swapped → ⊥
-unfolding missed lost hit wire kindOf rows found frameLength pick six
+unfolding missed lost hit wire kindOf rows found frameLength pick six pin pinSpot withDten withBit
 swapped-fails d =
-    let e = first-byte swapped d 2 (omega arith) (omega arith) (hurt 2 1) (hurt-fair 2 1 (omega arith)) cfga-write cfga-group 0 (omega arith) 7 5 (stores .1) refl in
+    let e = first-byte swapped d 2 (omega arith) (omega arith) (hurt 2 1) (hurt-fair 2 1 (omega arith)) cfga-write cfga-group 0 (omega arith) 3 7 (stores .1) refl in
     omega arith

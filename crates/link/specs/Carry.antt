@@ -2,10 +2,9 @@
 use Prim.Native.Nat.{ℕ, _≤_}
 use mathlib.Core.Path.{_≡_}
 use mathlib.Core.List.{List, [], _∷_}
-use lib.ListN.{length}
 use Rattle.lent.specs.Bytes.{Bytes}
 use Rattle.lent.specs.Memory.{over}
-use Rattle.chain.specs.State.{stateLength}
+use Rattle.chain.specs.State.{Sound}
 use Rattle.link.specs.Rig.{ours}
 use Rattle.link.specs.Sending.{Sending}
 use Rattle.link.specs.Step.{Seen, arrives, serves, returns, step}
@@ -58,5 +57,5 @@ saw (c ∷ cs) = seen (c .result) (c .state′) (c .read′) (c .marks′) ∷ s
 -- DEMAND 3 OF THE CODE
 abbrev pub CodeObeys : Type 0
 CodeObeys =
-    (n : ℕ) → 1 ≤ n → n ≤ 16 → (state : List ℕ) → Bytes state → length state ≡ stateLength n
+    (n : ℕ) → 1 ≤ n → n ≤ 16 → (state : List ℕ) → Bytes state → Sound n state
     → (cs : List Call) → AllFair n (sendings cs) → Called n state cs → Obeyed ours n state (sendings cs) (saw cs)

@@ -50,6 +50,6 @@ handedBy number n reply bytes marks = record { number = number; bytes = readerBy
 abbrev pub ours : Rig
 ours = record {
   writer = λ n code bytes out. madeBy (writerNumber n code (length bytes) (length out)) n code bytes out;
-  chain = λ n frame state reply. servedBy (chainNumber n frame (length state) (length reply)) n frame state reply;
+  chain = λ n frame state reply. servedBy (chainNumber n frame state (length reply)) n frame state reply;
   reader = λ n code reply bytes marks. handedBy (readerNumber n code (length reply) (length bytes) (length marks)) n reply bytes marks;
 }

@@ -4,11 +4,11 @@ use Prim.Native.Nat.{ℕ, _+_, _/_, _%_, _^_, _<_, _≤_}
 use mathlib.Core.Path.{_≡_}
 use mathlib.Core.Bool.{false}
 use mathlib.Core.List.{List, _∷_}
-use lib.ListN.{length, getD}
+use lib.ListN.{getD}
 use Rattle.lent.specs.Bytes.{Bytes}
 use Rattle.lent.specs.Refusal.{pick}
 use Rattle.frames.specs.Places.{six}
-use Rattle.chain.specs.State.{stateLength}
+use Rattle.chain.specs.State.{Sound}
 use Rattle.host.specs.Marks.{wasRead}
 use Rattle.host.specs.Cells.{ReadsCells}
 use Rattle.host.specs.declared.cells.Readings.{Readings}
@@ -26,7 +26,7 @@ clearsCells = 0x711
 -- On a chain in any state: a clear that acted, then a run of any frames, then a read of the g-th group of cells, CVA to CVF by 0 to 5.
 pub record AfterClear (n : ℕ) (state : List ℕ) (clear : Sending) (run : List Sending) (read : Sending) (g : ℕ) : Type 0 where
   pub are-bytes : Bytes state
-  pub whole : length state ≡ stateLength n
+  pub sound : Sound n state
   pub fair : Fair n clear
   pub clears : clear .code ≡ clearsCells
   pub acted : lost clear ≡ false
