@@ -196,7 +196,7 @@ showlogs: example
 LOGGED := --devices 3 --polls 1 --seed 191
 
 # The library called from C, by both compilers; the stack that each entry uses is printed.
-RIG_TEST := tests/rig_test.c tests/log_test.c tests/lent.c tests/plain.c tests/stack.c
+RIG_TEST := tests/rig_test.c tests/chain_test.c tests/log_test.c tests/lent.c tests/plain.c tests/stack.c
 ctest: $(LIB)
 	@echo '== ctest: every entry called from C, by clang -O0 too'
 	@mkdir -p $(OUT)
