@@ -11,7 +11,7 @@
 .PHONY: run showlog test test-arm test-powerpc lib dist install bench fuzz fmt need second header against printed sanitized manual readme ctest example showlogs entries fuzz_some dist_alone FORCE
 
 PREFIX ?= /usr/local
-VERSION := 2.1.0
+VERSION := 3.0.0
 CHECKED := -Wall -Wextra -Wpedantic -Werror -Iinclude
 ARCHIVE := build/librig.a
 SECOND := build/bench/release/libsecond_c.a

@@ -15,7 +15,9 @@
  *   reply    what comes in meanwhile, byte for byte as long as the frame
  *   number   what a call came to: 0 is done, any other is a refusal (RIG_DONE and on)
  *   mark     what became of one device's group in a reply: read, wrong or silent (RIG_MARK_READ and on)
- *   state    the registers of all devices: device k has 18 groups of six bytes, group g at 108 * (k - 1) + 6 * g
+ *   state    the registers and pins of all devices, 109 bytes a device: 18 groups of six bytes, group g of device k at
+ *            109 * (k - 1) + 6 * g, and after them the device's pin (RIG_GROUP_PLACE, RIG_PIN_PLACE)
+ *   pin      the level of a device's DTEN pin, one byte: 0 low, 1 high. It shows in a read of CFGA (RIG_DTEN)
  *   log      what passed, as a row of records: kind and body, by their length, one after the other (rig_log_put)
  *   lent     memory of the caller's that an entry reads or fills; host data is always in device order, device k at 6 * (k - 1)
  *
@@ -46,7 +48,7 @@ extern "C" {
 #define RIG_DONE 0            /* done */
 #define RIG_BAD_SIZE 1        /* n is not 1 to 16; of a tally, the marks are not 1 to 16 */
 #define RIG_UNKNOWN_COMMAND 2 /* the command is not one of the 26, nor a conversion code */
-#define RIG_WRONG_LENGTH 3    /* lent data, state or reply of the wrong length; or a mark above 2 */
+#define RIG_WRONG_LENGTH 3    /* lent data, state or reply of the wrong length; a mark above 2; or a pin above 1 */
 #define RIG_COMMAND_PEC 4     /* the frame's command group has a wrong check word */
 #define RIG_OUTPUT_SHORT 5    /* a lent output is too short */
 #define RIG_FRAME_LENGTH 6    /* the frame has under 4 bytes, or not the length of its command */
@@ -79,7 +81,7 @@ extern "C" {
 #define RIG_COMMAND_BYTES 4 /* the frame of a clear or a conversion: a command group */
 #define RIG_DATA_BYTES(n) ((size_t)6 * (n))      /* host data of a write or read, for n devices */
 #define RIG_FRAME_BYTES(n) ((size_t)4 + (size_t)8 * (n)) /* the frame of a write or read, and its reply */
-#define RIG_STATE_BYTES(n) ((size_t)108 * (n))   /* the state of n devices */
+#define RIG_STATE_BYTES(n) ((size_t)109 * (n))   /* the state of n devices */
 #define RIG_LOG_BYTES(body) ((size_t)4 + (body)) /* the record of a body of so many bytes */
 
 /* ---- Register groups --------------------------------------------------------------------------------------------- */
@@ -102,6 +104,13 @@ extern "C" {
 #define RIG_GROUP_SCTRL 15
 #define RIG_GROUP_PWM 16
 #define RIG_GROUP_PSB 17
+
+#define RIG_DTEN 0x02 /* in the first byte of CFGA: the bit that shows the device's pin, and that no write changes */
+
+/* ---- Places in the state, of device k, 1 to 16 ------------------------------------------------------------------------ */
+
+#define RIG_GROUP_PLACE(k, g) (RIG_STATE_BYTES((size_t)(k) - 1) + (size_t)6 * (g)) /* the six bytes of its group g */
+#define RIG_PIN_PLACE(k) RIG_GROUP_PLACE(k, RIG_GROUPS)                            /* its pin */
 
 /* ---- The 26 commands: WR writes a group, RD reads it, CLR sets groups to 0xFF. CVD and CVE, AUXB and AUXC are out of
  * order in the data sheet, and so they are here. -------------------------------------------------------------------- */
@@ -249,13 +258,16 @@ struct rig_written rig_write(uint32_t n, uint32_t code, const uint8_t *data, siz
  * Stands in for the chain: serves one frame on the registers in `state` and lays the answer over the start of `reply`.
  * In a write each device checks its own group: right, it stores the six bytes; wrong, it keeps what it had. Clock bytes
  * are not looked at.
+ * In CFGA the bit RIG_DTEN of the first byte is read-only, as on the part: a read shows the device's pin there, with the check
+ * word of the six bytes as shown, and a write stores the other 47 bits. What is stored in that bit stays, and no read shows it.
+ * All other groups are read as they are stored. The pins are the caller's, to set between calls: no frame changes one.
  *   n                  the devices of the chain
  *   frame, frame_len   the frame as it came over the wire
- *   state, state_len   the registers: RIG_STATE_BYTES(n), no more and no less
+ *   state, state_len   registers and pins: RIG_STATE_BYTES(n), no more and no less, and every pin 0 or 1
  *   reply, reply_len   at least frame_len
  * Number, the first that applies:
  *   RIG_BAD_SIZE          n is not 1 to 16                                                     state, reply untouched
- *   RIG_WRONG_LENGTH      state is not 108n bytes                                              state, reply untouched
+ *   RIG_WRONG_LENGTH      state is not 109n bytes, or a pin of any device is above 1           state, reply untouched
  *   RIG_OUTPUT_SHORT      reply is shorter than the frame                                      state, reply untouched
  *   RIG_FRAME_LENGTH      the frame has under 4 bytes                                          state untouched, silence
  *   RIG_COMMAND_PEC       the command group's check word is wrong, in any of its 16 bits       state untouched, silence
@@ -268,6 +280,7 @@ struct rig_written rig_write(uint32_t n, uint32_t code, const uint8_t *data, siz
  * The word: on a write bit k - 1 for each device k that stored, on a clear or a conversion the low n bits, otherwise 0.
  *
  *     uint8_t state[RIG_STATE_BYTES(16)] = {0}, reply[RIG_FRAME_BYTES(16)];
+ *     state[RIG_PIN_PLACE(16)] = 1;  // DTEN of device 16 is high
  *     struct rig_heard heard = rig_chain(16, frame, out.length, state, sizeof state, reply, sizeof reply);
  */
 struct rig_heard rig_chain(uint32_t n, const uint8_t *frame, size_t frame_len, uint8_t *state, size_t state_len, uint8_t *reply, size_t reply_len);

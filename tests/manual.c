@@ -17,8 +17,8 @@ static void show_frame(const uint8_t *frame, size_t length) { shown += frame[0] 
 int main(void) {
     double volts = 1;
 #include "manual.inc"
-    int good = word == 0x3D6E && out.number == RIG_DONE && heard.number == RIG_DONE && number == RIG_DONE && added == RIG_DONE &&
-               tally.read == 16 && volts == 0 && measured == 1 && pulses == 1 && slept == 160 && start.code == 0x360 &&
+    int good = word == 0x3D6E && out.number == RIG_DONE && state[1743] == 1 && heard.number == RIG_DONE && number == RIG_DONE &&
+               added == RIG_DONE && tally.read == 16 && volts == 0 && measured == 1 && pulses == 1 && slept == 160 && start.code == 0x360 &&
                started.length == 4 && taken.command == RIG_CONVERT_ADCV && taken.mode == 2 && size.length == 5 &&
                sent.length == 136 && shown == 132 && whole.number == RIG_DONE && whole.at == sizeof log && whole.sizes == 1 && whole.frames == 1;
     printf("manual: the examples of rig.h %s\n", good ? "do what they say" : "do not do what they say");
