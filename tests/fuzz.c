@@ -193,15 +193,27 @@ static size_t next_frame(struct input *in, uint32_t n, uint8_t *frame) {
     return cut;
 }
 
+/* A state, mostly with every pin 0 or 1; else one of them of any value. */
+static void next_state(struct input *in, uint8_t *state, size_t length) {
+    uint8_t choice = next(in), at = next(in), value = next(in);
+    next_bytes(in, state, length);
+    for (uint32_t k = 1; RIG_PIN_PLACE(k) < length; k++) {
+        state[RIG_PIN_PLACE(k)] &= 1;
+    }
+    if (choice >= 224 && length >= RIG_STATE_BYTES(1)) {
+        state[RIG_PIN_PLACE(1 + at % (length / RIG_STATE_BYTES(1)))] = value;
+    }
+}
+
 static void fuzz_chain(struct input *in) {
     static uint8_t frame[256], state[ROOM], reply[256], state_then[ROOM], reply_then[256];
     uint32_t n = next_size(in);
     size_t frame_len = next_frame(in, n, frame);
     size_t state_len = next_length(in, RIG_STATE_BYTES(devices(n))), reply_len = next_length(in, frame_len);
-    uint8_t number = plain_chain_number(n, frame, frame_len, state_len, reply_len);
     uint16_t word = 0;
-    next_bytes(in, state, state_len);
+    next_state(in, state, state_len);
     memset(reply, next(in), sizeof reply);
+    uint8_t number = plain_chain_number(n, frame, frame_len, state, state_len, reply_len);
     memcpy(state_then, state, state_len);
     memcpy(reply_then, reply, sizeof reply);
     if (number != RIG_BAD_SIZE && number != RIG_WRONG_LENGTH && number != RIG_OUTPUT_SHORT) {

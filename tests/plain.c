@@ -154,20 +154,39 @@ uint8_t plain_mark(const uint8_t *group) {
     return ((unsigned)group[6] << 8 | group[7]) == plain_word(group, 6) ? RIG_MARK_READ : RIG_MARK_WRONG;
 }
 
+/* A device's group as a read shows it: in CFGA, bit 1 of the first byte is the pin. */
+static void plain_shown(const uint8_t *device, unsigned group, uint8_t six[6]) {
+    memcpy(six, device + 6 * group, 6);
+    if (group == RIG_GROUP_CFGA) {
+        six[0] = (uint8_t)((six[0] & 0xFD) + 2 * device[108]);
+    }
+}
+
+/* In CFGA, bit 1 of the first byte stays as it is stored. */
+static void plain_store(uint8_t *device, unsigned group, const uint8_t *six) {
+    uint8_t stored = device[0] & 0x02;
+    memcpy(device + 6 * group, six, 6);
+    if (group == RIG_GROUP_CFGA) {
+        device[0] = (uint8_t)((six[0] & 0xFD) + stored);
+    }
+}
+
 uint16_t plain_obey(uint32_t n, const struct command *command, const uint8_t *frame, uint8_t *state, uint8_t *reply) {
     uint16_t word = 0;
     for (uint32_t k = 0; k < n; k++) {
         uint8_t *device = state + RIG_STATE_BYTES(k);
         const uint8_t *sent = frame + 4 + 8 * (n - 1 - k);
         if (command->kind == READS) {
-            plain_group(device + 6 * command->group, 6, reply + 4 + 8 * k);
+            uint8_t six[6];
+            plain_shown(device, command->group, six);
+            plain_group(six, 6, reply + 4 + 8 * k);
         } else if (command->kind == CLEARS) {
             memset(device + 6 * command->group, 0xFF, 6 * (command->last - command->group + 1));
             word |= (uint16_t)(1u << k);
         } else if (command->kind == CONVERTS) {
             word |= (uint16_t)(1u << k);
         } else if (plain_mark(sent) == RIG_MARK_READ) {
-            memcpy(device + 6 * command->group, sent, 6);
+            plain_store(device, command->group, sent);
             word |= (uint16_t)(1u << k);
         }
     }
@@ -207,12 +226,17 @@ uint8_t plain_writer_number(uint32_t n, const struct command *command, size_t da
     return out < plain_frame_length(n, command) ? RIG_OUTPUT_SHORT : RIG_DONE;
 }
 
-uint8_t plain_chain_number(uint32_t n, const uint8_t *frame, size_t length, size_t state, size_t reply) {
+uint8_t plain_chain_number(uint32_t n, const uint8_t *frame, size_t length, const uint8_t *state, size_t state_len, size_t reply) {
     if (n < 1 || n > 16) {
         return RIG_BAD_SIZE;
     }
-    if (state != RIG_STATE_BYTES(n)) {
+    if (state_len != RIG_STATE_BYTES(n)) {
         return RIG_WRONG_LENGTH;
+    }
+    for (uint32_t k = 1; k <= n; k++) {
+        if (state[RIG_PIN_PLACE(k)] > 1) {
+            return RIG_WRONG_LENGTH;
+        }
     }
     if (reply < length) {
         return RIG_OUTPUT_SHORT;

@@ -60,7 +60,7 @@ int same_conversion(struct rig_conversion a, struct rig_conversion b);
 
 /* The numbers, by the order of refusals that the paper has. NULL is an unknown command. */
 uint8_t plain_writer_number(uint32_t n, const struct command *command, size_t data, size_t out);
-uint8_t plain_chain_number(uint32_t n, const uint8_t *frame, size_t length, size_t state, size_t reply);
+uint8_t plain_chain_number(uint32_t n, const uint8_t *frame, size_t length, const uint8_t *state, size_t state_len, size_t reply);
 uint8_t plain_reader_number(uint32_t n, const struct command *command, size_t reply, size_t data, size_t marks);
 
 /* ---- the log, by the words of its request ---- */

@@ -418,16 +418,19 @@ static void test_wake(void) {
 /* ---- the stack that each entry uses, at its longest work ---- */
 
 static uint8_t frame_16[RIG_FRAME_BYTES(16)], state_16[RIG_STATE_BYTES(16)], reply_16[RIG_FRAME_BYTES(16)];
+static uint8_t write_cfga_16[RIG_FRAME_BYTES(16)], read_cfga_16[RIG_FRAME_BYTES(16)];
 static uint8_t data_16[RIG_DATA_BYTES(16)], marks_16[16], cells_36[36], log_136[136];
 static struct rig_tally tally_16;
 static uint32_t sink;
 
 static void pec_job(void) { sink += rig_pec(state_16, sizeof state_16); }
 static void write_job(void) { sink += rig_write(16, RIG_WRPSB, data_16, 96, frame_16, 132).number; }
-static void chain_write_job(void) { sink += rig_chain(16, frame_16, 132, state_16, 1728, reply_16, 132).word; }
+static void chain_write_job(void) { sink += rig_chain(16, frame_16, 132, state_16, sizeof state_16, reply_16, 132).word; }
 static void read_frame_job(void) { sink += rig_write(16, RIG_RDPSB, NULL, 0, frame_16, 132).number; }
-static void chain_read_job(void) { sink += rig_chain(16, frame_16, 132, state_16, 1728, reply_16, 132).number; }
+static void chain_read_job(void) { sink += rig_chain(16, frame_16, 132, state_16, sizeof state_16, reply_16, 132).number; }
 static void read_job(void) { sink += rig_read(16, RIG_RDPSB, reply_16, 132, data_16, 96, marks_16, 16); }
+static void write_cfga_job(void) { sink += rig_chain(16, write_cfga_16, 132, state_16, sizeof state_16, reply_16, 132).word; }
+static void read_cfga_job(void) { sink += rig_chain(16, read_cfga_16, 132, state_16, sizeof state_16, reply_16, 132).number; }
 static void cells_job(void) { sink += rig_cells(cells_36, 36, marks_16, 6).valid; }
 static void tally_job(void) { sink += rig_tally_add(&tally_16, marks_16, 16); }
 static void wake_job(void) { sink += rig_wake(16, 0, 4300).wait; }
@@ -441,10 +444,13 @@ static void test_stack(void) {
     static const struct { const char *name; void (*job)(void); } jobs[] = {
         {"rig_pec", pec_job}, {"rig_write (write)", write_job}, {"rig_chain (write)", chain_write_job},
         {"rig_write (read)", read_frame_job}, {"rig_chain (read)", chain_read_job}, {"rig_read", read_job},
+        {"rig_chain (WRCFGA)", write_cfga_job}, {"rig_chain (RDCFGA)", read_cfga_job},
         {"rig_cells", cells_job}, {"rig_tally_add", tally_job}, {"rig_wake", wake_job},
         {"rig_conversion_code", code_job}, {"rig_conversion_of", conversion_job},
         {"rig_log_put", log_put_job}, {"rig_log_at", log_at_job}, {"rig_log_walk", log_walk_job},
     };
+    plain_frame(16, command_of(RIG_WRCFGA), data_16, write_cfga_16);
+    plain_frame(16, command_of(RIG_RDCFGA), NULL, read_cfga_16);
     for (size_t i = 0; i < sizeof jobs / sizeof *jobs; i++) {
         size_t used = stack_of(jobs[i].job);
         printf("   stack of %-19s %5zu bytes\n", jobs[i].name, used);
@@ -458,7 +464,9 @@ int main(int count, char **words) {
     int no_stack = count == 2 && strcmp(words[1], "--no-stack") == 0;
     static const struct { const char *name; void (*test)(void); } tests[] = {
         {"rig_pec", test_pec}, {"rig_write", test_write}, {"the known codes", test_codes}, {"conversion codes", test_conversions},
-        {"rig_chain", test_chain}, {"rig_read", test_read}, {"almost silent", test_almost_silent}, {"conversion frames", test_conversion_frames},
+        {"rig_chain", test_chain}, {"places in the state", test_places}, {"values of a pin", test_pin_values},
+        {"groups written", test_written}, {"pins stay", test_pins_stay}, {"a pin changed", test_pin_change},
+        {"rig_read", test_read}, {"almost silent", test_almost_silent}, {"conversion frames", test_conversion_frames},
         {"rig_cells", test_cells}, {"cleared cells", test_cleared}, {"rig_tally_add", test_tally}, {"rig_wake", test_wake}, {"rig_log_put", test_log_put}, {"rig_log_at", test_log_at},
         {"cuts of a log", test_log_cuts}, {"flips of a log", test_log_flips}, {"random logs", test_log_random}, {"stack", test_stack},
     };
