@@ -57,14 +57,14 @@ static struct {
     uint8_t marks[SETS][16];
     struct rig_conversion conversions[SETS];
     uint32_t codes[SETS];
-    uint8_t write_frames[6][132], read_frames[6][132], replies[3][6][132];
+    uint8_t write_frames[6][132], read_frames[6][132], write_cfga[6][132], read_cfga[6][132], replies[3][6][132];
     uint8_t log[SETS * RIG_LOG_BYTES(132)];
     size_t log_len, places[SETS];
 } in;
 
 /* What comes out, and what a call changes. */
 static struct work {
-    uint8_t state[16 * 108], out[132], reply[132], data[96], marks[16];
+    uint8_t state[RIG_STATE_BYTES(16)], out[132], reply[132], data[96], marks[16];
     struct rig_tally tally;
     struct rig_readings readings;
     struct rig_conversion conversion;
@@ -91,20 +91,32 @@ static void turn_write(const struct maker *m, uint32_t n, size_t turns)
     }
 }
 
-static void turn_chain_write(const struct maker *m, uint32_t n, size_t turns)
+static void obey_frames(const struct maker *m, uint32_t n, size_t turns, uint8_t frames[6][132])
 {
     for (size_t i = 0; i < turns; i++) {
-        struct rig_heard h = m->chain(n, in.write_frames[i % 6], 4 + 8 * n, work.state, 108 * n, work.reply, sizeof work.reply);
+        struct rig_heard h = m->chain(n, frames[i % 6], 4 + 8 * n, work.state, RIG_STATE_BYTES(n), work.reply, sizeof work.reply);
         work.sum += h.number + h.word;
     }
 }
 
+static void turn_chain_write(const struct maker *m, uint32_t n, size_t turns)
+{
+    obey_frames(m, n, turns, in.write_frames);
+}
+
 static void turn_chain_read(const struct maker *m, uint32_t n, size_t turns)
 {
-    for (size_t i = 0; i < turns; i++) {
-        struct rig_heard h = m->chain(n, in.read_frames[i % 6], 4 + 8 * n, work.state, 108 * n, work.reply, sizeof work.reply);
-        work.sum += h.number + h.word;
-    }
+    obey_frames(m, n, turns, in.read_frames);
+}
+
+static void turn_chain_write_cfga(const struct maker *m, uint32_t n, size_t turns)
+{
+    obey_frames(m, n, turns, in.write_cfga);
+}
+
+static void turn_chain_read_cfga(const struct maker *m, uint32_t n, size_t turns)
+{
+    obey_frames(m, n, turns, in.read_cfga);
 }
 
 static void read_replies(const struct maker *m, uint32_t n, size_t turns, uint8_t replies[6][132])
@@ -203,8 +215,10 @@ static const struct row {
     {"write, N = 16", turn_write, 16, 1.1, 1.05},
     {"chain write, N = 1", turn_chain_write, 1, 0, 0},
     {"chain write, N = 16", turn_chain_write, 16, 1.1, 1.05},
+    {"chain write of CFGA, N = 16", turn_chain_write_cfga, 16, 1.1, 1.05},
     {"chain read, N = 1", turn_chain_read, 1, 0, 0},
     {"chain read, N = 16", turn_chain_read, 16, 1.1, 1.05},
+    {"chain read of CFGA, N = 16", turn_chain_read_cfga, 16, 1.1, 1.05},
     {"read, N = 1", turn_read, 1, 0, 0},
     {"read, N = 16, right", turn_read, 16, 1.1, 1.05},
     {"read, N = 16, wrong", turn_read_wrong, 16, 1.1, 1.05},
@@ -301,15 +315,25 @@ static void assert_marks(uint32_t n, size_t i)
     }
 }
 
-/* Frames for n devices, a state of random bytes, and the replies to the reads of that state. */
+/* A state of random bytes, with pins at random. */
+static void make_state(void)
+{
+    memcpy(work.state, in.bytes, sizeof work.state);
+    for (uint32_t k = 1; k <= 16; k++)
+        work.state[RIG_PIN_PLACE(k)] &= 1;
+}
+
+/* Frames for n devices, and the replies to the reads of a state. */
 static void make_frames(uint32_t n)
 {
     memset(&work, 0, sizeof work);
-    memcpy(work.state, in.bytes, sizeof work.state);
+    make_state();
     for (size_t i = 0; i < 6; i++) {
         plain_write(n, writes[i], in.bytes + 96 * i, 6 * n, in.write_frames[i], 132);
         plain_write(n, reads[i], NULL, 0, in.read_frames[i], 132);
-        plain_chain(n, in.read_frames[i], 4 + 8 * n, work.state, 108 * n, in.replies[RIG_MARK_READ][i], 132);
+        plain_write(n, RIG_WRCFGA, in.bytes + 96 * i, 6 * n, in.write_cfga[i], 132);
+        plain_write(n, RIG_RDCFGA, NULL, 0, in.read_cfga[i], 132);
+        plain_chain(n, in.read_frames[i], 4 + 8 * n, work.state, RIG_STATE_BYTES(n), in.replies[RIG_MARK_READ][i], 132);
         spoil(n, i);
         assert_marks(n, i);
     }
@@ -448,7 +472,7 @@ static int bench(const struct row *row)
         printed[run] = took[PRINTED] / took[PLAIN];
         second[run] = took[ARCHIVE] / took[SECOND];
     }
-    printf("%-22s %9.1f", row->name, median(nanoseconds, RUNS));
+    printf("%-27s %9.1f", row->name, median(nanoseconds, RUNS));
     int missed = show_ratio(median(archive, RUNS), row->goal);
     missed += show_ratio(median(printed, RUNS), row->printed_goal);
     printf(" %9.2f\n", median(second, RUNS));
@@ -485,7 +509,7 @@ static int time_rows(const char *word)
            "table of 256), and of the archive's to second/ (Rust, release, bit by bit): under 1 is faster. Medians of %d alternating runs in one\n"
            "process, each of at least %.0f ms of processor time; the same inputs for all. First it is checked that all agree.\n\n",
            RUNS, 1e3 * SHORTEST_RUN);
-    printf("%-22s %9s %10s  %4s %-6s %10s  %4s %-6s %9s\n", "", "ns a call", "archive", "goal", "", "rig.c", "goal", "", "to second");
+    printf("%-27s %9s %10s  %4s %-6s %10s  %4s %-6s %9s\n", "", "ns a call", "archive", "goal", "", "rig.c", "goal", "", "to second");
     for (size_t i = 0; i < ROWS; i++)
         if (word == NULL || strstr(rows[i].name, word) != NULL) {
             missed += bench(&rows[i]);

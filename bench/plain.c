@@ -123,13 +123,18 @@ uint16_t plain_pec(const uint8_t *bytes, size_t bytes_len)
     return (uint16_t)(r << 1);
 }
 
+static void put_word(uint8_t *out, uint16_t word)
+{
+    out[0] = (uint8_t)(word >> 8);
+    out[1] = (uint8_t)word;
+}
+
 static void put_group(uint8_t *out, const uint8_t *bytes, size_t count)
 {
     uint16_t word = plain_pec(bytes, count);
 
     memcpy(out, bytes, count);
-    out[count] = (uint8_t)(word >> 8);
-    out[count + 1] = (uint8_t)word;
+    put_word(out + count, word);
 }
 
 static int is_right(const uint8_t *group, size_t count)
@@ -181,18 +186,46 @@ static struct rig_heard heard(uint8_t number, uint16_t word)
     return h;
 }
 
+/* A device's state: 18 groups, then its pin, which a read of CFGA shows in the bit DTEN of the first byte. */
+enum { DEVICE = 109, PIN = 108, CFGA = 0, DTEN = 0x02 };
+
+static int any_pin_above_1(uint32_t n, const uint8_t *state)
+{
+    uint8_t all = 0;
+
+    for (uint32_t k = 0; k < n; k++)
+        all |= state[DEVICE * k + PIN];
+    return all > 1;
+}
+
 static uint16_t store(uint32_t n, uint8_t group, const uint8_t *frame, uint8_t *state)
 {
     uint16_t word = 0;
 
     for (uint32_t k = 0; k < n; k++) {
         const uint8_t *sent = frame + 4 + 8 * (n - 1 - k);
+        uint8_t *held = state + DEVICE * k + 6 * group;
         if (is_right(sent, 6)) {
-            memcpy(state + 108 * k + 6 * group, sent, 6);
+            uint8_t stays = held[0] & DTEN;
+            memcpy(held, sent, 6);
+            if (group == CFGA)
+                held[0] = (uint8_t)((sent[0] & ~DTEN) | stays);
             word |= (uint16_t)(1u << k);
         }
     }
     return word;
+}
+
+static void answer(uint32_t n, uint8_t group, const uint8_t *state, uint8_t *reply)
+{
+    for (uint32_t k = 0; k < n; k++) {
+        const uint8_t *device = state + DEVICE * k;
+        uint8_t *shown = reply + 4 + 8 * k;
+        memcpy(shown, device + 6 * group, 6);
+        if (group == CFGA)
+            shown[0] = (uint8_t)((shown[0] & ~DTEN) | device[PIN] << 1);
+        put_word(shown + 6, plain_pec(shown, 6));
+    }
 }
 
 static void clear(uint32_t n, uint8_t group, uint8_t *state)
@@ -200,7 +233,7 @@ static void clear(uint32_t n, uint8_t group, uint8_t *state)
     size_t count = group == 2 ? 6 : 4;
 
     for (uint32_t k = 0; k < n; k++)
-        memset(state + 108 * k + 6 * group, 0xff, 6 * count);
+        memset(state + DEVICE * k + 6 * group, 0xff, 6 * count);
 }
 
 struct rig_heard plain_chain(uint32_t n, const uint8_t *frame, size_t frame_len, uint8_t *state, size_t state_len,
@@ -208,7 +241,7 @@ struct rig_heard plain_chain(uint32_t n, const uint8_t *frame, size_t frame_len,
 {
     if (n < 1 || n > 16)
         return heard(1, 0);
-    if (state_len != 108 * (size_t)n)
+    if (state_len != DEVICE * (size_t)n || any_pin_above_1(n, state))
         return heard(3, 0);
     if (reply_len < frame_len)
         return heard(5, 0);
@@ -226,8 +259,7 @@ struct rig_heard plain_chain(uint32_t n, const uint8_t *frame, size_t frame_len,
     if (command.kind == WRITE)
         return heard(0, store(n, command.group, frame, state));
     if (command.kind == READ) {
-        for (uint32_t k = 0; k < n; k++)
-            put_group(reply + 4 + 8 * k, state + 108 * k + 6 * command.group, 6);
+        answer(n, command.group, state, reply);
         return heard(0, 0);
     }
     if (command.kind == CLEAR)
