@@ -19,6 +19,12 @@ enum { CLEARED = 0xFFFF };
 static const uint32_t read_cells[CELL_GROUPS] = {RIG_RDCVA, RIG_RDCVB, RIG_RDCVC,
                                                   RIG_RDCVD, RIG_RDCVE, RIG_RDCVF};
 
+/* A configuration group: how it is written and read, its bytes, and the bits of the first one that the device sets itself. */
+struct config {
+    uint32_t write_code, read_code;
+    uint8_t bytes[6], read_only;
+};
+
 /* What the chain answered to one read: bytes and marks, and the reply itself for the old rule. */
 struct answer {
     uint8_t reply[RIG_FRAME_BYTES(RIG_DEVICES)], data[RIG_DATA_BYTES(RIG_DEVICES)], marks[RIG_DEVICES];
@@ -106,26 +112,66 @@ static void ask(struct controller *c, uint32_t code, struct answer *answer)
     want_promise(c, trip.hit, read);
 }
 
+/* The simulated board ties DTEN high on every second device. */
+static void tie_pins(struct controller *c)
+{
+    for (uint32_t k = 2; k <= c->options.devices; k += 2)
+        c->state[RIG_PIN_PLACE(k)] = 1;
+}
+
+/* What device k showed of its DTEN pin; for noise that the promise allows that is how the board ties it. */
+static void note_pin(struct controller *c, uint32_t k, int high)
+{
+    if (high != c->state[RIG_PIN_PLACE(k)] && c->options.noise != NOISE_WILD) {
+        fprintf(stderr, "controller: device %u shows its DTEN pin %s, though the board ties it %s: the promise is broken (seed %u)\n", k,
+                high ? "high" : "low", high ? "low" : "high", c->options.seed);
+        give_up(&c->log);
+    }
+    c->dten = (c->dten & ~((uint32_t)1 << (k - 1))) | (uint32_t)high << (k - 1);
+}
+
+/* Whether a device holds what was written: a bit that it sets itself may read otherwise. */
+static int is_held(const struct config *config, const uint8_t *back)
+{
+    return ((back[0] ^ config->bytes[0]) & ~config->read_only) == 0 && memcmp(back + 1, config->bytes + 1, 5) == 0;
+}
+
+/* The devices that were seen to hold the group, bit k - 1 for device k. */
+static uint32_t seen_to_hold(struct controller *c, const struct config *config, const struct answer *answer)
+{
+    uint32_t seen = 0;
+
+    for (uint32_t k = 1; k <= c->options.devices; k++) {
+        const uint8_t *back = answer->data + 6 * (k - 1);
+        if (answer->marks[k - 1] != RIG_MARK_READ)
+            continue;
+        if (config->read_code == RIG_RDCFGA)
+            note_pin(c, k, (back[0] & RIG_DTEN) != 0);
+        if (is_held(config, back))
+            seen |= (uint32_t)1 << (k - 1);
+    }
+    return seen;
+}
+
 /* Writes one configuration group of all devices and reads it back, until each device has been seen to hold it. */
-static void configure(struct controller *c, uint32_t write_code, uint32_t read_code, const uint8_t bytes[6])
+static void configure(struct controller *c, const struct config *config)
 {
     uint32_t n = c->options.devices, all = ((uint32_t)1 << n) - 1, seen = 0;
     uint8_t data[RIG_DATA_BYTES(RIG_DEVICES)], silence[RIG_FRAME_BYTES(RIG_DEVICES)];
     struct answer answer;
 
     for (uint32_t k = 0; k < n; k++)
-        memcpy(data + 6 * k, bytes, 6);
+        memcpy(data + 6 * k, config->bytes, 6);
     for (uint32_t i = 0; i < MOST_TRIES && seen != all; i++) {
-        struct trip trip = send_frame(c, WAY_WRITE, write_code, data, silence);
+        struct trip trip = send_frame(c, WAY_WRITE, config->write_code, data, silence);
         want_promise(c, trip.hit, trip.heard.word);
-        ask(c, read_code, &answer);
-        for (uint32_t k = 0; k < n; k++)
-            if (answer.marks[k] == RIG_MARK_READ && memcmp(answer.data + 6 * k, bytes, 6) == 0)
-                seen |= (uint32_t)1 << k;
+        ask(c, config->read_code, &answer);
+        seen |= seen_to_hold(c, config, &answer);
         c->tries++;
     }
     if (seen != all) {
-        fprintf(stderr, "controller: command %03X did not reach every device in %d tries: the wire is too noisy\n", write_code, MOST_TRIES);
+        fprintf(stderr, "controller: command %03X did not reach every device in %d tries: the wire is too noisy\n", config->write_code,
+                MOST_TRIES);
         give_up(&c->log);
     }
 }
@@ -137,7 +183,7 @@ static void measure_cells(struct controller *c)
         for (uint32_t cell = 0; cell < RIG_CELLS; cell++) {
             uint32_t level = (k * 18 + cell) * 2477 % (HIGHEST_CELL - LOWEST_CELL - 100);
             uint32_t count = LOWEST_CELL + level + wire_random(&c->wire, 101);
-            uint8_t *at = c->state + RIG_STATE_BYTES(k) + 6 * RIG_GROUP_CVA + 2 * cell;
+            uint8_t *at = c->state + RIG_GROUP_PLACE(k + 1, RIG_GROUP_CVA) + 2 * cell;
             at[0] = (uint8_t)count;
             at[1] = (uint8_t)(count >> 8);
         }
@@ -171,7 +217,7 @@ static void start_conversion(struct controller *c)
    be those of the groups that were not read. A count is 0 where it is not valid. */
 static void count_cells(struct controller *c, uint32_t k, const uint8_t *marks, const struct rig_readings *r)
 {
-    const uint8_t *cells = c->state + RIG_STATE_BYTES(k) + 6 * RIG_GROUP_CVA;
+    const uint8_t *cells = c->state + RIG_GROUP_PLACE(k + 1, RIG_GROUP_CVA);
     struct counts *ours = &c->ours[k];
 
     for (uint32_t cell = 0; cell < RIG_CELLS; cell++) {
@@ -247,13 +293,14 @@ static void log_poll(struct controller *c, uint32_t poll)
 
 static void run(struct controller *c)
 {
-    static const uint8_t cfga[6] = {0xFC, 0, 0, 0, 0, 0}; /* pull-downs of GPIO 1 to 5 off, reference on */
-    static const uint8_t cfgb[6] = {0x0F, 0, 0, 0, 0, 0}; /* pull-downs of GPIO 6 to 9 off */
+    /* In CFGA the pull-downs of GPIO 1 to 5 off and the reference on, in CFGB the pull-downs of GPIO 6 to 9 off. */
+    static const struct config cfga = {RIG_WRCFGA, RIG_RDCFGA, {0xFC, 0, 0, 0, 0, 0}, RIG_DTEN};
+    static const struct config cfgb = {RIG_WRCFGB, RIG_RDCFGB, {0x0F, 0, 0, 0, 0, 0}, 0};
     uint32_t due;
 
     log_note(&c->log, "configuration");
-    configure(c, RIG_WRCFGA, RIG_RDCFGA, cfga);
-    configure(c, RIG_WRCFGB, RIG_RDCFGB, cfgb);
+    configure(c, &cfga);
+    configure(c, &cfgb);
     measure_cells(c); /* what the devices have from before */
     log_note(&c->log, "clear, and a poll before the first conversion");
     c->cleared = send_command(c, RIG_CLRCELL); /* so that it passes for no reading, should the first conversion be lost */
@@ -286,6 +333,7 @@ int main(int count, char **words)
     c.clock = UINT32_MAX - 2000000; /* two seconds before the clock runs past its end */
     c.last = c.clock - 1000000;
     wire_start(&c.wire, c.options.noise, c.options.devices, c.options.seed);
+    tie_pins(&c);
     log_start(&c);
     run(&c);
     log_close(&c.log);

@@ -27,9 +27,10 @@ struct controller {
     struct options options;
     struct wire wire;
     struct wire_log log;
-    uint8_t state[RIG_STATE_BYTES(RIG_DEVICES)]; /* the registers of the chain */
+    uint8_t state[RIG_STATE_BYTES(RIG_DEVICES)]; /* the registers and pins of the chain */
     uint32_t clock, last;              /* microseconds: now, and the end of the last frame */
     uint32_t tries;                    /* rounds of write and read back that it took to configure the chain */
+    uint32_t dten;                     /* bit k - 1: device k showed its DTEN pin high */
     int cleared;                       /* the devices heard the clear before the first poll */
     uint32_t conversions, heard;       /* conversions started, and those of them that the devices heard */
     uint32_t frames, waits;            /* frames in all, and those that had to wait for the port to wake */

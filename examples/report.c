@@ -19,16 +19,16 @@ static void head(const struct options *o)
         puts("WILD NOISE IS BEYOND THE PROMISE: one in some tens of thousands of damaged groups is right again.");
 }
 
-/* Of every poll. Three cells a group. */
+/* The pin as CFGA showed it, then of every poll the groups, three cells each, and the cells. */
 static void table_of_cells(const struct controller *c)
 {
-    puts("\n        |      groups CVA to CVF       |             cells");
-    puts(" device |     read     wrong    silent |     valid unmeasured  not read");
-    puts(" -------+------------------------------+-------------------------------");
+    puts("\n        |      |      groups CVA to CVF       |             cells");
+    puts(" device | DTEN |     read     wrong    silent |     valid unmeasured  not read");
+    puts(" -------+------+------------------------------+-------------------------------");
     for (uint32_t k = 0; k < c->options.devices; k++) {
         const struct counts *ours = &c->ours[k];
-        printf(" %6u | %8u  %8u  %8u | %9u %10u %9u\n", k + 1, ours->read, ours->wrong, ours->silent, ours->valid, ours->unmeasured,
-               ours->not_read);
+        printf(" %6u | %4s | %8u  %8u  %8u | %9u %10u %9u\n", k + 1, c->dten >> k & 1 ? "high" : "low", ours->read, ours->wrong,
+               ours->silent, ours->valid, ours->unmeasured, ours->not_read);
     }
 }
 
@@ -106,6 +106,7 @@ static void promise(const struct controller *c, uint32_t cells)
     } else {
         printf("Checked: each of %u cells is what rig_cells says of it: valid, unmeasured or not read.\n", cells);
         puts("Checked: a group was read exactly where noise spared it and its command.");
+        puts("Checked: each device showed its DTEN pin as the board ties it, high on every second one.");
     }
 }
 
@@ -124,7 +125,7 @@ void report(const struct controller *c)
            old.right_dropped);
     if (c->options.devices <= 10)
         puts("Above nine in ten of up to ten devices is all of them: there the old rule keeps no wrong group.");
-    printf("Configured in %u rounds of write and read back.\n", c->tries);
+    printf("Configured in %u rounds of write and read back; in CFGA the bit DTEN shows the pin.\n", c->tries);
     printf("Clear (CLRCELL): 1 sent; %s.\n", c->cleared ? "every device heard it" : "no device heard it, and each kept what it had");
     printf("Conversions (ADCV): %u sent; every device heard %u, and no device the other %u.\n", c->conversions, c->heard,
            c->conversions - c->heard);
