@@ -55,7 +55,7 @@ pub fn cells(groups: &[u8], marks: &[u8]) -> Readings {
 fn lent(groups: &[u8], marks: &[u8]) -> Result<(), u8> {
     let lengths = groups.len() == 2 * CELLS && marks.len() == GROUPS;
     let known = marks.iter().all(|mark| *mark <= SILENT);
-    require(lengths && known, numbers::WRONG_LENGTH_OR_MARK)
+    require(lengths && known, numbers::LENT_WRONG)
 }
 
 /// The lowest and the highest valid cell, of equals the one with the lowest number.

@@ -33,7 +33,7 @@ pub fn serve(n: u32, frame: &[u8], state: &mut [u8], reply: &mut [u8]) -> Heard 
 
 fn lent(n: u32, frame: usize, state: usize, reply: usize) -> Result<usize, u8> {
     let devices = numbers::devices(n)?;
-    require(state == DEVICE * devices, numbers::WRONG_LENGTH_OR_MARK)?;
+    require(state == DEVICE * devices, numbers::LENT_WRONG)?;
     require(reply >= frame, numbers::OUTPUT_SHORT)?;
     Ok(devices)
 }

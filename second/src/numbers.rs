@@ -3,7 +3,7 @@
 pub const DONE: u8 = 0;
 pub const CHAIN_SIZE: u8 = 1;
 pub const UNKNOWN_COMMAND: u8 = 2;
-pub const WRONG_LENGTH_OR_MARK: u8 = 3;
+pub const LENT_WRONG: u8 = 3;
 pub const COMMAND_PEC: u8 = 4;
 pub const OUTPUT_SHORT: u8 = 5;
 pub const FRAME_LENGTH: u8 = 6;

@@ -32,7 +32,7 @@ fn plan(n: u32, code: u32, reply: usize, bytes: usize, marks: usize) -> Result<u
     let command = commands::find(code).ok_or(numbers::UNKNOWN_COMMAND)?;
     require(command.kind == Kind::Read, numbers::NO_READ)?;
     let length = command.frame_length(devices);
-    require(reply == length, numbers::WRONG_LENGTH_OR_MARK)?;
+    require(reply == length, numbers::LENT_WRONG)?;
     let room = bytes >= DATA * devices && marks >= devices;
     require(room, numbers::OUTPUT_SHORT)?;
     Ok(devices)

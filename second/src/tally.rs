@@ -25,7 +25,7 @@ pub fn add(tally: &mut Tally, marks: &[u8]) -> u8 {
 fn raised(tally: Tally, marks: &[u8]) -> Result<Tally, u8> {
     require((1..=16).contains(&marks.len()), numbers::CHAIN_SIZE)?;
     let known = marks.iter().all(|mark| *mark <= SILENT);
-    require(known, numbers::WRONG_LENGTH_OR_MARK)?;
+    require(known, numbers::LENT_WRONG)?;
     sum(tally, marks).ok_or(numbers::TALLY_FULL)
 }
 

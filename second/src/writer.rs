@@ -31,7 +31,7 @@ fn plan(n: u32, code: u32, given: usize, room: usize) -> Result<(Command, usize)
         Kind::Write => DATA * devices,
         Kind::Read | Kind::Clear | Kind::Convert => 0,
     };
-    require(given == wanted, numbers::WRONG_LENGTH_OR_MARK)?;
+    require(given == wanted, numbers::LENT_WRONG)?;
     let length = command.frame_length(devices);
     require(room >= length, numbers::OUTPUT_SHORT)?;
     Ok((command, length))
