@@ -5,8 +5,16 @@ use crate::groups::{seal, COMMAND_GROUP, DATA, DATA_GROUP, SILENCE};
 use crate::numbers::{self, require};
 use crate::pec;
 
-/// Bytes of state of one device: 18 groups of six.
-pub const DEVICE: usize = 108;
+/// Bytes of state of one device: 18 groups of six, and the DTEN pin.
+pub const DEVICE: usize = 109;
+
+/// Where the pin lies in them.
+const PIN: usize = 108;
+
+const CFGA: usize = 0;
+
+/// Bit 1 of CFGA's first byte: a read shows the pin there, and no write reaches what is stored.
+const DTEN: u8 = 1 << 1;
 
 #[derive(Clone, Copy, Debug, PartialEq, Eq)]
 pub struct Heard {
@@ -16,7 +24,7 @@ pub struct Heard {
 
 /// Serves one frame on the lent state and answers as many bytes as the frame has.
 pub fn serve(n: u32, frame: &[u8], state: &mut [u8], reply: &mut [u8]) -> Heard {
-    let devices = match lent(n, frame.len(), state.len(), reply.len()) {
+    let devices = match lent(n, frame.len(), state, reply.len()) {
         Ok(devices) => devices,
         Err(number) => return Heard { number, word: 0 },
     };
@@ -31,11 +39,18 @@ pub fn serve(n: u32, frame: &[u8], state: &mut [u8], reply: &mut [u8]) -> Heard 
     }
 }
 
-fn lent(n: u32, frame: usize, state: usize, reply: usize) -> Result<usize, u8> {
+fn lent(n: u32, frame: usize, state: &[u8], reply: usize) -> Result<usize, u8> {
     let devices = numbers::devices(n)?;
-    require(state == DEVICE * devices, numbers::LENT_WRONG)?;
+    let length = state.len() == DEVICE * devices;
+    require(length && every_pin_is_a_bit(state), numbers::LENT_WRONG)?;
     require(reply >= frame, numbers::OUTPUT_SHORT)?;
     Ok(devices)
+}
+
+fn every_pin_is_a_bit(state: &[u8]) -> bool {
+    state
+        .chunks_exact(DEVICE)
+        .all(|device| matches!(device[PIN], 0 | 1))
 }
 
 fn understood(devices: usize, frame: &[u8]) -> Result<Command, u8> {
@@ -70,7 +85,7 @@ fn store(group: usize, body: &[u8], state: &mut [u8]) -> u16 {
     let from_last_device = state.chunks_exact_mut(DEVICE).enumerate().rev();
     for ((before, device), sent) in from_last_device.zip(body.chunks_exact(DATA_GROUP)) {
         if pec::right(sent) {
-            device[DATA * group..][..DATA].copy_from_slice(&sent[..DATA]);
+            write(device, group, &sent[..DATA]);
             word |= 1 << before;
         }
     }
@@ -80,8 +95,30 @@ fn store(group: usize, body: &[u8], state: &mut [u8]) -> u16 {
 fn send(group: usize, state: &[u8], answer: &mut [u8]) {
     let places = answer.chunks_exact_mut(DATA_GROUP);
     for (device, place) in state.chunks_exact(DEVICE).zip(places) {
-        seal(&device[DATA * group..][..DATA], place);
+        seal(&read(device, group), place);
     }
+}
+
+fn write(device: &mut [u8], group: usize, sent: &[u8]) {
+    let held = &mut device[DATA * group..][..DATA];
+    let first = held[0];
+    held.copy_from_slice(sent);
+    if group == CFGA {
+        held[0] = with_dten(held[0], first & DTEN);
+    }
+}
+
+fn read(device: &[u8], group: usize) -> [u8; DATA] {
+    let mut shown = [0; DATA];
+    shown.copy_from_slice(&device[DATA * group..][..DATA]);
+    if group == CFGA {
+        shown[0] = with_dten(shown[0], device[PIN] << 1);
+    }
+    shown
+}
+
+fn with_dten(byte: u8, dten: u8) -> u8 {
+    byte & !DTEN | dten
 }
 
 fn clear(first: usize, last: usize, state: &mut [u8]) {

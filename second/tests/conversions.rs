@@ -1,11 +1,14 @@
 //! The conversion commands: their ranges as 002 lists them, undoing both ways, and what writer, chain and reader make of them.
 
+mod states;
+
 use second::chain::{serve, Heard};
 use second::commands::{find, Kind, COMMANDS};
 use second::conversions::{conversion_code, conversion_of, Code, Conversion};
 use second::groups::command_group;
 use second::reader::read;
 use second::writer::{write, Written};
+use states::sound;
 
 /// A command's name, its lowest code, the highest of MD, DCP and PUP, the ends of its choice, and how many codes it has.
 type Listed = (&'static str, u16, [u32; 3], [u32; 2], usize);
@@ -224,7 +227,7 @@ fn writer_refuses_data_and_too_little_room() {
 #[test]
 fn chain_hears_a_conversion_and_changes_no_register() {
     for n in 1..=16u32 {
-        let before: Vec<u8> = (0..108 * n).map(|place| (place % 241) as u8).collect();
+        let before = sound((0..109 * n).map(|place| (place % 241) as u8).collect());
         for code in codes() {
             let mut state = before.clone();
             let mut reply = [0xAA; 7];
@@ -242,14 +245,14 @@ fn chain_refuses_a_conversion_of_another_length() {
     let mut frame = command_group(0x360).to_vec();
     frame.resize(12, 0xFF);
     for (length, number) in [(3, 6), (5, 6), (12, 6)] {
-        let (mut state, mut reply) = ([7; 108], [0xAA; 13]);
+        let (mut state, mut reply) = ([1; 109], [0xAA; 13]);
         let heard = serve(1, &frame[..length], &mut state, &mut reply);
         assert_eq!(heard, Heard { number, word: 0 });
-        assert_eq!(state, [7; 108]);
+        assert_eq!(state, [1; 109]);
         assert!(reply[..length].iter().all(|byte| *byte == 0xFF));
     }
     frame[3] ^= 1;
-    let heard = serve(1, &frame[..4], &mut [7; 108], &mut [0; 4]);
+    let heard = serve(1, &frame[..4], &mut [1; 109], &mut [0; 4]);
     assert_eq!(heard, Heard { number: 4, word: 0 });
 }
 

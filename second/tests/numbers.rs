@@ -1,5 +1,6 @@
 //! The numbers of document 01, the vectors of the data sheets, each refusal in its order, and the traps.
 
+mod states;
 mod words;
 
 use second::cells::{cells, extremes, Extremes, Readings};
@@ -11,6 +12,7 @@ use second::reader::read;
 use second::tally::{add, Tally};
 use second::wake::{wake, Wait};
 use second::writer::{write, Written};
+use states::sound;
 use words::WORDS;
 
 /// Document 01's table: group, write code (0 for none) and read code.
@@ -46,9 +48,8 @@ fn data_group(bytes: [u8; 6]) -> [u8; 8] {
 }
 
 fn state_of(devices: usize) -> Vec<u8> {
-    (0..108 * devices)
-        .map(|place| (place * 13 % 241) as u8)
-        .collect()
+    let bytes = (0..109 * devices).map(|place| (place * 13 % 241) as u8);
+    sound(bytes.collect())
 }
 
 fn written(n: u32, code: u32, data: &[u8]) -> Vec<u8> {
@@ -67,14 +68,14 @@ fn refuses_write(n: u32, code: u32, data: &[u8], room: usize, number: u8) {
     assert_eq!(out, vec![0xAA; room]);
 }
 
-/// A refused chain keeps its state; of the reply the first `filled` bytes turn to 0xFF.
+/// A refused chain keeps its state, here of bytes 1; of the reply the first `filled` bytes turn to 0xFF.
 fn refuses_frame(n: u32, frame: &[u8], lent: (usize, usize), number: u8, filled: usize) {
     let (state_length, reply_length) = lent;
-    let mut state = vec![0x5A; state_length];
+    let mut state = vec![1; state_length];
     let mut reply = vec![0xAA; reply_length];
     let answer = serve(n, frame, &mut state, &mut reply);
     assert_eq!(answer, Heard { number, word: 0 });
-    assert_eq!(state, vec![0x5A; state_length]);
+    assert_eq!(state, vec![1; state_length]);
     let (silent, untouched) = reply.split_at(filled);
     assert!(silent.iter().all(|byte| *byte == 0xFF));
     assert!(untouched.iter().all(|byte| *byte == 0xAA));
@@ -226,25 +227,26 @@ fn writer_refuses_in_its_order() {
 #[test]
 fn chain_refuses_in_its_order() {
     let cut = [0x07, 0x11, 0xC9];
-    refuses_frame(0, &cut, (107, 0), 1, 0);
-    refuses_frame(17, &cut, (1836, 0), 1, 0);
-    refuses_frame(1, &cut, (107, 0), 3, 0);
-    refuses_frame(2, &cut, (108, 0), 3, 0);
-    refuses_frame(1, &cut, (108, 2), 5, 0);
-    refuses_frame(1, &cut, (108, 5), 6, 3);
-    refuses_frame(1, &[], (108, 5), 6, 0);
-    refuses_frame(1, &[0x00, 0x03, 0x00, 0x00, 0x00], (108, 5), 4, 5);
-    refuses_frame(1, &[0x00, 0x17, 0x4A, 0x88, 0x00], (108, 5), 2, 5);
-    refuses_frame(1, &[0x00, 0x01, 0x3D, 0x6E, 0x00], (108, 9), 6, 5);
-    refuses_frame(1, &[0x07, 0x11, 0xC9, 0xC0, 0x00], (108, 9), 6, 5);
-    refuses_frame(1, &[0x00; 1000], (108, 1001), 4, 1000);
+    refuses_frame(0, &cut, (108, 0), 1, 0);
+    refuses_frame(17, &cut, (1853, 0), 1, 0);
+    refuses_frame(1, &cut, (108, 0), 3, 0);
+    refuses_frame(1, &cut, (110, 0), 3, 0);
+    refuses_frame(2, &cut, (109, 0), 3, 0);
+    refuses_frame(1, &cut, (109, 2), 5, 0);
+    refuses_frame(1, &cut, (109, 5), 6, 3);
+    refuses_frame(1, &[], (109, 5), 6, 0);
+    refuses_frame(1, &[0x00, 0x03, 0x00, 0x00, 0x00], (109, 5), 4, 5);
+    refuses_frame(1, &[0x00, 0x17, 0x4A, 0x88, 0x00], (109, 5), 2, 5);
+    refuses_frame(1, &[0x00, 0x01, 0x3D, 0x6E, 0x00], (109, 9), 6, 5);
+    refuses_frame(1, &[0x07, 0x11, 0xC9, 0xC0, 0x00], (109, 9), 6, 5);
+    refuses_frame(1, &[0x00; 1000], (109, 1001), 4, 1000);
 }
 
 #[test]
 fn the_closing_bit_counts() {
     let mut frame = CFGA_ZEROS;
     frame[3] = 0x6F;
-    refuses_frame(1, &frame, (108, 12), 4, 12);
+    refuses_frame(1, &frame, (109, 12), 4, 12);
 }
 
 #[test]
@@ -258,7 +260,7 @@ fn sixteen_neighbouring_bits_can_pass_the_check() {
     let mut frame = CFGA_ZEROS;
     frame[..4].copy_from_slice(&other.to_be_bytes());
     assert!(right(&frame[..4]));
-    refuses_frame(1, &frame, (108, 12), 2, 12);
+    refuses_frame(1, &frame, (109, 12), 2, 12);
 }
 
 #[test]
@@ -272,7 +274,7 @@ fn printed_groups_with_top_bits_or_unlisted_codes_are_unknown() {
         [0x11, 0x12, 0x94, 0xA6],
         [0x00, 0x17, 0x4A, 0x88],
     ] {
-        refuses_frame(1, &group, (108, 6), 2, 4);
+        refuses_frame(1, &group, (109, 6), 2, 4);
     }
 }
 
@@ -281,7 +283,7 @@ fn top_bits_hide_every_listed_code() {
     for command in COMMANDS {
         for top in 1..32u16 {
             let group = command_group(command.code | top << 11);
-            refuses_frame(1, &group, (108, 4), 2, 4);
+            refuses_frame(1, &group, (109, 4), 2, 4);
         }
     }
 }
@@ -307,10 +309,11 @@ fn every_command_does_its_own_work_on_every_device() {
             assert_eq!(heard, Heard { number: 0, word });
             assert_eq!(reply[frame.len()], 0xAA);
             for (place, byte) in state.iter().enumerate() {
-                let (device, group, at) = (place / 108, place % 108 / 6, place % 6);
+                let (device, group, at) = (place / 109, place % 109 / 6, place % 109 % 6);
                 let reached = (command.first..=command.last).contains(&group);
+                let kept = if (group, at) == (0, 0) { 0x02 } else { 0x00 };
                 let expected = match command.kind {
-                    Kind::Write if reached => data[6 * device + at],
+                    Kind::Write if reached => data[6 * device + at] & !kept | before[place] & kept,
                     Kind::Clear if reached => 0xFF,
                     _ => before[place],
                 };
@@ -333,9 +336,12 @@ fn every_read_hands_back_the_group_of_every_device() {
             let mut bytes = vec![0xAA; 6 * devices + 1];
             let mut marks = vec![0xAA; devices + 1];
             assert_eq!(read(n, code, &reply, &mut bytes, &mut marks), 0);
-            for device in 0..devices {
-                let held = &state[108 * device + 6 * group..][..6];
-                assert_eq!(&bytes[6 * device..][..6], held);
+            for (device, given) in state.chunks(109).zip(bytes.chunks(6)) {
+                let mut held = device[6 * group..][..6].to_vec();
+                if group == 0 {
+                    held[0] = held[0] & 0xFD | device[108] << 1;
+                }
+                assert_eq!(given, held);
             }
             assert_eq!(marks[..devices], vec![0; devices]);
             assert_eq!((bytes[6 * devices], marks[devices]), (0xAA, 0xAA));
@@ -366,7 +372,7 @@ fn clock_bytes_are_not_looked_at() {
         Heard { number: 0, word: 0 }
     );
     assert_eq!(reply[4..10], state[30..36]);
-    assert_eq!(reply[12..18], state[138..144]);
+    assert_eq!(reply[12..18], state[139..145]);
 }
 
 #[test]
@@ -390,7 +396,7 @@ fn each_device_checks_only_its_own_group() {
             }
         );
         for before in 0..16 {
-            let place = 108 * before + 96;
+            let place = 109 * before + 96;
             let expected = if hit >> before & 1 == 1 {
                 &old[place..place + 6]
             } else {
