@@ -423,7 +423,7 @@ fn nothing_at_null() {
             3
         );
         assert_eq!(
-            rig_chain(1, null(), 0, [0; 108].as_mut_ptr(), 108, null_mut(), 0).number,
+            rig_chain(1, null(), 0, [0; 109].as_mut_ptr(), 109, null_mut(), 0).number,
             6
         );
         assert_eq!(rig_read(1, 2, null(), 0, null_mut(), 0, null_mut(), 0), 3);

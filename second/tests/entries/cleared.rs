@@ -2,6 +2,7 @@
 //! a clear.
 
 use crate::beside;
+use crate::states::sound;
 use second::cells::Readings;
 
 const ALL: u32 = 0x3FFFF;
@@ -76,7 +77,7 @@ fn every_count() {
 fn after_a_clear() {
     for n in 1..=16u32 {
         let devices = n as usize;
-        let mut state = vec![0x75; 108 * devices];
+        let mut state = sound(vec![0x75; 109 * devices]);
         let mut frame = [0; 4];
         beside::write(n, 0x711, &[], &mut frame);
         beside::chain(n, &frame, &mut state, &mut [0; 4]);

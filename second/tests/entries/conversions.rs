@@ -1,7 +1,7 @@
 //! The conversion commands: every code of 16 bits and above, all fields around their ranges, and what writer, chain and reader make
 //! of each of the 368.
 
-use crate::{beside, pattern};
+use crate::{beside, pattern, state_of};
 use second::conversions::{conversion_of, Conversion};
 
 const CODES: usize = 368;
@@ -93,7 +93,7 @@ fn every_conversion_on_every_chain() {
         assert_eq!(beside::write(n, code, &[0], &mut [0; 9]).number, 3);
         assert_eq!(beside::write(n, code, &[], &mut [0; 3]).number, 5);
 
-        let before = pattern(108 * devices, code as usize);
+        let before = state_of(n, code as usize);
         let (mut state, mut reply) = (before.clone(), vec![0; 7]);
         let heard = beside::chain(n, &frame[..4], &mut state, &mut reply);
         assert_eq!((heard.number, u32::from(heard.word)), (0, (1 << n) - 1));

@@ -1,27 +1,16 @@
 //! Noise on frames and replies: every single flip, and a burst of up to 15 neighbouring bits from every bit.
 
-use crate::{beside, commands, pattern};
-use second::commands::{Command, Kind, COMMANDS};
-use second::{chain, writer};
+use crate::{beside, commands, frame_of, state_of};
+use second::chain;
+use second::commands::{Command, COMMANDS};
 
 fn flip(bytes: &mut [u8], bit: usize) {
     bytes[bit / 8] ^= 0x80 >> (bit % 8);
 }
 
-fn frame_of(n: u32, command: &Command) -> Vec<u8> {
-    let data = match command.kind {
-        Kind::Write => pattern(6 * n as usize, command.first),
-        Kind::Read | Kind::Clear | Kind::Convert => Vec::new(),
-    };
-    let mut frame = vec![0; 132];
-    let written = writer::write(n, u32::from(command.code), &data, &mut frame);
-    frame.truncate(written.length);
-    frame
-}
-
 fn reply_of(n: u32, frame: &[u8]) -> Vec<u8> {
     let mut reply = vec![0; frame.len()];
-    chain::serve(n, frame, &mut pattern(108 * n as usize, 9), &mut reply);
+    chain::serve(n, frame, &mut state_of(n, 9), &mut reply);
     reply
 }
 
@@ -38,7 +27,7 @@ fn every_single_flip() {
     for (n, command) in (1..=16).flat_map(|n| commands().map(move |command| (n, command))) {
         let mut frame = frame_of(n, &command);
         let mut reply = reply_of(n, &frame);
-        let mut state = pattern(108 * n as usize, 9);
+        let mut state = state_of(n, 9);
         for bit in 0..8 * frame.len() {
             flip(&mut frame, bit);
             flip(&mut reply, bit);
@@ -67,7 +56,7 @@ fn one_burst(n: u32, write: &Command, read: &Command, start: usize, length: usiz
     burst(&mut out, start, length, inside);
     burst(&mut back, start, length, inside);
     burst(&mut reply, start, length, inside);
-    let mut state = pattern(108 * n as usize, 9);
+    let mut state = state_of(n, 9);
     beside::chain(n, &out, &mut state, &mut vec![0; out.len()]);
     let marks = carried(n, read, &back, &reply, &mut state);
     if start >= 32 && (start - 32) / 64 == (start + length - 1 - 32) / 64 {

@@ -6,15 +6,20 @@ mod beside;
 mod cleared;
 mod conversions;
 mod damage;
+mod dten;
 mod random;
 #[path = "../records/mod.rs"]
 mod records;
 mod refusals;
+#[path = "../states/mod.rs"]
+mod states;
 mod wirelog;
 #[path = "../words/mod.rs"]
 mod words;
 
 use second::commands::{find, Command, Kind, COMMANDS};
+use second::writer;
+use states::sound;
 
 #[test]
 fn printed_check_words() {
@@ -31,6 +36,23 @@ pub fn pattern(length: usize, from: usize) -> Vec<u8> {
         .collect()
 }
 
+/// The state of a chain from that rule, its pins 0 or 1.
+pub fn state_of(n: u32, from: usize) -> Vec<u8> {
+    sound(pattern(109 * n as usize, from))
+}
+
+/// The frame of a command as the second writer has it, with data from that rule.
+pub fn frame_of(n: u32, command: &Command) -> Vec<u8> {
+    let data = match command.kind {
+        Kind::Write => pattern(6 * n as usize, command.first),
+        Kind::Read | Kind::Clear | Kind::Convert => Vec::new(),
+    };
+    let mut frame = vec![0; 132];
+    let written = writer::write(n, u32::from(command.code), &data, &mut frame);
+    frame.truncate(written.length);
+    frame
+}
+
 /// The 26 commands, and some conversions: ADCV, ADOW, CVST, AXOW, ADSTAT and ADCVAX.
 pub fn commands() -> impl Iterator<Item = Command> {
     let conversions = [0x260, 0x3FE, 0x2C7, 0x555, 0x568, 0x5FF];
@@ -44,7 +66,7 @@ pub fn commands() -> impl Iterator<Item = Command> {
 fn every_command_on_every_chain() {
     for n in 1..=16u32 {
         let devices = n as usize;
-        let mut state = pattern(108 * devices, 1);
+        let mut state = state_of(n, 1);
         for command in commands() {
             let code = u32::from(command.code);
             let data = match command.kind {

@@ -2,6 +2,7 @@
 
 use crate::beside;
 use crate::records::record;
+use crate::states::sound;
 use second::commands::{find, Command, Kind, COMMANDS};
 use second::tally::Tally;
 use second::writer;
@@ -141,10 +142,20 @@ fn some_frame(dice: &mut Dice, n: u32) -> Vec<u8> {
     frame
 }
 
+/// A state whose pins are 0 or 1, but now and then one of them above.
+fn some_state(dice: &mut Dice, length: usize) -> Vec<u8> {
+    let mut state = sound(dice.bytes(length));
+    if length >= 109 && dice.one_in(12) {
+        let before = dice.below(length / 109);
+        state[109 * before + 108] = 2 + dice.below(254) as u8;
+    }
+    state
+}
+
 /// Frames on registers that are carried along, each answered, its reply damaged and read.
 fn random_link(dice: &mut Dice) {
     let n = 1 + dice.below(16) as u32;
-    let mut state = dice.bytes(108 * n as usize);
+    let mut state = some_state(dice, 109 * n as usize);
     for _ in 0..3 {
         let frame = some_frame(dice, n);
         let reply = dice.length(frame.len());
@@ -159,10 +170,11 @@ fn random_link(dice: &mut Dice) {
 
 fn random_refused_chain(dice: &mut Dice) {
     let n = dice.size();
-    let state = dice.length(108 * devices(n));
+    let state = dice.length(109 * devices(n));
+    let mut state = some_state(dice, state);
     let frame = dice.below(150);
     let reply = dice.length(frame);
-    let (frame, mut state, mut reply) = (dice.bytes(frame), dice.bytes(state), dice.bytes(reply));
+    let (frame, mut reply) = (dice.bytes(frame), dice.bytes(reply));
     beside::chain(n, &frame, &mut state, &mut reply);
 }
 

@@ -1,6 +1,7 @@
 //! All refusals in their order: every N, every command, and lengths off by one both ways.
 
-use crate::{beside, commands, pattern};
+use crate::states::sound;
+use crate::{beside, commands, pattern, state_of};
 use second::commands::{Command, Kind};
 use second::groups::command_group;
 use second::tally::Tally;
@@ -81,9 +82,12 @@ fn chain() {
             frame[..4].copy_from_slice(&command_group(command.code | top));
             frame[3] ^= closing;
             for size in around(length).into_iter().chain(0..4) {
-                for state in around(108 * devices(n)) {
+                for state in around(109 * devices(n))
+                    .into_iter()
+                    .chain([108 * devices(n)])
+                {
                     for reply in around(size) {
-                        let (mut state, mut reply) = (pattern(state, 1), pattern(reply, 2));
+                        let (mut state, mut reply) = (sound(pattern(state, 1)), pattern(reply, 2));
                         seen.insert(
                             beside::chain(n, &frame[..size], &mut state, &mut reply).number,
                         );
@@ -101,7 +105,7 @@ fn chain() {
 fn every_command_group() {
     let mut known = 0;
     for code in 0..=u16::MAX {
-        let (mut state, mut reply) = (pattern(108, 1), [0; 4]);
+        let (mut state, mut reply) = (state_of(1, 1), [0; 4]);
         let number = beside::chain(1, &command_group(code), &mut state, &mut reply).number;
         known += usize::from(number != 2);
         let written = beside::write(1, u32::from(code), &[], &mut [0; 12]).number;
