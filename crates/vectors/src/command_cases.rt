@@ -24,7 +24,7 @@ fn groups(code: u32, found: commands::Command) {
 }
 
 fn last_cleared(code: u32) -> usize {
-    let mut state = [0u8; 108];
+    let mut state = [0u8; 109];
     let mut frame = [0u8; 4];
     let mut reply = [0u8; 4];
     frames::writer::write(1, code, b"", &mut frame);

@@ -119,7 +119,7 @@ fn sent(code: u32)
 {
     let table = pec::table();
     let mut frame = [0u8; 4];
-    let mut state = [0u8; 108];
+    let mut state = [0u8; 109];
     let mut reply = [0u8; 4];
     let written = frames::writer::write(1, code, b"", &mut frame);
     frames::groups::put_command(&table, code, &mut frame);

@@ -191,7 +191,7 @@ fn apart(page: &mut Page, code: u32, stated: &str) {
 
 fn sent(page: &mut Page, code: u16, stated: &str) {
     let mut frame = [0; 4];
-    let (mut state, mut reply) = ([0; 108], [0; 4]);
+    let (mut state, mut reply) = ([0; 109], [0; 4]);
     let wide = u32::from(code);
     let written = write(1, wide, &[], &mut frame);
     let heard = serve(1, &command_group(code), &mut state, &mut reply);

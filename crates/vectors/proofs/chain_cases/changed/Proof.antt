@@ -6,10 +6,10 @@ use Rattle.vectors.proofs.chain_cases.changed.Statement.{statement}
 use Rattle.vectors.proofs.chain_cases.changed.Tie as tie
 
 abbrev Inv-loop : tie.InvT-loop
-Inv-loop state none₀ at₀ t4 t5 t6 t7 none at = at ≤ length state
+Inv-loop state pins none₀ at₀ t6 t7 none at = at ≤ length state
 
 abbrev μ-loop : tie.MeasureT-loop
-μ-loop state none₀ at₀ t4 t5 t6 t7 none at = length state - at
+μ-loop state pins none₀ at₀ t6 t7 none at = length state - at
 
 pub changed-spec : {M : Type 1} → statement M
 changed-spec =
@@ -18,22 +18,16 @@ changed-spec =
     Inv-loop
     μ-loop
     (λ c. search needs)
-    (λ c. search needs)
     (λ c κs. search needs)
-    (λ c. search needs)
-    (λ c κs. search needs)
-    (λ c. search needs)
     (λ c κs. search needs)
     (λ c. search needs)
     (λ c κs. search needs)
     (λ c κs. search needs)
     (λ c. search needs)
-    (λ c κs. search needs)
-    (λ c. search needs)
-    (λ c. search needs)
     (λ c. search needs)
     (λ c. search needs)
     (λ c κs. search needs)
+    (λ c. search needs)
     (λ c. search needs)
     (λ c. search needs)
     (λ c. search needs)

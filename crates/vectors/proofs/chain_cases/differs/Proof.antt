@@ -1,14 +1,14 @@
 -- `vectors::chain_cases::differs` is safe and ends. Assumes nothing.
-use Prim.Native.Nat.{_≤_, _+_, _-_}
+use Prim.Native.Nat.{_≤_, _-_}
 use borrow.Author.Needs.{needs}
 use Rattle.vectors.proofs.chain_cases.differs.Statement.{statement}
 use Rattle.vectors.proofs.chain_cases.differs.Tie as tie
 
 abbrev Inv-loop : tie.InvT-loop
-Inv-loop state at j₀ j = (at ≤ j) × (j ≤ at + 6)
+Inv-loop state pins at end j₀ j = (at ≤ j) × (j ≤ end)
 
 abbrev μ-loop : tie.MeasureT-loop
-μ-loop state at j₀ j = at + 6 - j
+μ-loop state pins at end j₀ j = end - j
 
 pub differs-spec : {M : Type 1} → statement M
 differs-spec =
@@ -16,7 +16,6 @@ differs-spec =
     (tie.spec
     Inv-loop
     μ-loop
-    (λ c. search needs)
     (λ c. search needs)
     (λ c. search needs)
     (λ c κs. search needs)

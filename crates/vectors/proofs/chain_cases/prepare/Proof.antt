@@ -7,10 +7,10 @@ use Rattle.vectors.proofs.chain_cases.prepare.Statement.{statement}
 use Rattle.vectors.proofs.chain_cases.prepare.Tie as tie
 
 abbrev Inv-loop : tie.InvT-loop
-Inv-loop state₀ j₀ state j = (j ≤ length state₀) × (length state ≡ length state₀)
+Inv-loop pins state₀ j₀ state j = (j ≤ length state₀) × (length state ≡ length state₀)
 
 abbrev μ-loop : tie.MeasureT-loop
-μ-loop state₀ j₀ state j = length state₀ - j
+μ-loop pins state₀ j₀ state j = length state₀ - j
 
 pub prepare-spec : {M : Type 1} → statement M
 prepare-spec =
