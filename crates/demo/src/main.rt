@@ -1,5 +1,6 @@
-// Carries frames over a noisy wire for chains of 1, 2 and 16 devices: no noise, the command hit, one group hit, a reply hit, silence. The file 'stdout' beside
-// src/ is what the second implementation sees of the same frames.
+// Carries frames over a noisy wire for chains of 1, 2 and 16 devices: no noise, the command hit, one group hit, a reply hit, silence. What is read of CFGA has
+// the pin of its device in bit 1 of the first byte, whatever was written there. The file 'stdout' beside src/ is what the second implementation sees of the
+// same frames.
 const WRCFGA: u32 = 0x001;
 
 const RDCFGA: u32 = 0x002;
@@ -133,10 +134,24 @@ fn count_up(first: u8) -> [u8; 96] {
     bytes
 }
 
+// Sixteen devices whose registers are full of 7 and whose pins are 1 and 0 in turn.
+fn devices() -> [u8; 1744] {
+    let mut state = [7u8; 1744];
+    let mut k: usize = 0;
+    while k < 16 {
+        state[109 * k + 108] = ((k + 1) % 2) as u8;
+        k += 1;
+    }
+    state
+}
+
 fn main() {
     let old = count_up(0x10);
     let new = count_up(0x80);
-    show(1, &old[0..6], &new[0..6], &mut [7; 108]);
-    show(2, &old[0..12], &new[0..12], &mut [7; 216]);
-    show(16, &old, &new, &mut [7; 1728]);
+    let mut one = devices();
+    let mut two = devices();
+    let mut sixteen = devices();
+    show(1, &old[0..6], &new[0..6], &mut one[0..109]);
+    show(2, &old[0..12], &new[0..12], &mut two[0..218]);
+    show(16, &old, &new, &mut sixteen);
 }

@@ -1,4 +1,4 @@
-//! Prints what is seen of fixed frames over a noisy wire, for chains of 1, 2 and 16 devices.
+//! Prints what is seen of fixed frames over a noisy wire, for chains of 1, 2 and 16 devices whose pins are 1 and 0 in turn.
 
 use second::chain::serve;
 use second::reader::read;
@@ -57,11 +57,23 @@ fn frame(n: u32, code: u32, data: &[u8], forth: Hit, back: Hit, state: &mut [u8]
     );
 }
 
+/// Registers full of 7, and the pin.
+fn device(pin: u8) -> [u8; 109] {
+    let mut state = [7; 109];
+    state[108] = pin;
+    state
+}
+
 fn show(n: u32) {
     let size = 6 * n as usize;
     let old: Vec<u8> = (0x10..).take(size).collect();
     let new: Vec<u8> = (0x80..).take(size).collect();
-    let mut state = vec![7; 18 * size];
+    let mut state: Vec<u8> = [1, 0]
+        .into_iter()
+        .cycle()
+        .take(n as usize)
+        .flat_map(device)
+        .collect();
     let frames: [(u32, &[u8], Hit, Hit); 16] = [
         (WRCFGA, &old, QUIET, QUIET),
         (RDCFGA, &[], QUIET, QUIET),
