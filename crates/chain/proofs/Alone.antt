@@ -1,11 +1,10 @@
 -- Changing one device's group on the wire at will alters no other device's registers nor pin, nor its bit of the word. Number, kind and group depend on the first
 -- four bytes and the length; what a device stores, and its bit, on its own group. Assumes nothing.
-use mathlib.Core.Path.{_≡_, refl, sym, ap, _∙_, subst}
+use mathlib.Core.Path.{_≡_, refl, sym, ap, _∙_}
 use mathlib.Core.Bool.{Bool, true, false}
 use mathlib.Core.List.{List}
-use Prim.Native.Nat.{ℕ, _+_, _*_, _/_, _%_, _^_, _<_}
-use native.Mathlib.Omega.{arith}
-use borrow.Author.Tests.{eqb-true, eqb-false}
+use Prim.Native.Nat.{ℕ, _/_, _%_, _^_, _<_}
+use borrow.Author.Tests.{eqb-true}
 use lib.Dec.{eqb}
 use lib.ListN.{length, take}
 use Rattle.lent.specs.Refusal.{pick}
@@ -15,15 +14,14 @@ use Rattle.pec.specs.Group.{right}
 use Rattle.frames.specs.Places.{wire}
 use Rattle.frames.specs.Commands.{kindOf, groupOf}
 use Rattle.frames.proofs.Lookup.{group-below}
-use Rattle.frames.proofs.KindCases.{length-long}
-use Rattle.chain.specs.Dten.{dten, withDten}
 use Rattle.chain.specs.State.{stored}
-use Rattle.chain.specs.Effect.{written, storedBits, changed, report}
+use Rattle.chain.specs.Effect.{storedBits, changed, report}
 use Rattle.chain.specs.Chain.{codeOf, chainNumber, chainWord, chainState}
 use Rattle.chain.specs.Alone.{Alone}
 use Rattle.chain.proofs.CodeLaws.{code-alike}
 use Rattle.chain.proofs.Accepted.{Accepted, accepted}
-use Rattle.chain.proofs.WriteLaws.{written-own, written-other}
+use Rattle.chain.proofs.ClearLaws.{clear-room}
+use Rattle.chain.proofs.Obeyed.{changed-alike}
 use Rattle.chain.proofs.PinLaws.{pins-stay}
 
 -- the number depends on the first four bytes and the length
@@ -32,40 +30,8 @@ number-alike : (n : ℕ) (frame frame′ state : List ℕ) (r : ℕ) → length 
 unfolding chainNumber
 number-alike n frame frame′ state r l e = simp (l, e, code-alike frame frame′ e)
 
--- a good frame: device j + 1, by the kind
-module _ (n : ℕ) (frame frame′ state : List ℕ) (r j : ℕ) (l : length frame ≡ length frame′) (good : Accepted n frame state r) (hj : j < n)
-    (own : wire n j frame ≡ wire n j frame′) where
-  abbrev kind : ℕ
-  kind = kindOf (codeOf frame)
-
-  abbrev g : ℕ
-  g = groupOf (codeOf frame)
-
-  written-alike : (h : ℕ) → h < 18 → kind ≡ 1 → stored j h (written n n g frame state) ≡ stored j h (written n n g frame′ state)
-  written-alike h lh write = go (eqb h g) refl
-    where
-      long : length frame ≡ 4 + 8 * n
-      long = good .long ∙ length-long n kind (omega arith)
-
-      go : (b : Bool) → eqb h g ≡ b → stored j h (written n n g frame state) ≡ stored j h (written n n g frame′ state)
-      go true e =
-          subst (λ (x : ℕ). stored j x (written n n g frame state) ≡ stored j x (written n n g frame′ state)) (sym (eqb-true h g e))
-          (written-own n g frame state (group-below (codeOf frame)) long (good .sound .whole) n j (omega arith) hj
-          ∙ ap (λ (x : List ℕ). pick (right x) (withDten g (dten (stored j g state)) (take 6 x)) (stored j g state)) own
-          ∙ sym (written-own n g frame′ state (group-below (codeOf frame)) (sym l ∙ long) (good .sound .whole) n j (omega arith) hj))
-      go false e =
-          written-other n g frame state (group-below (codeOf frame)) long (good .sound .whole) n j h (omega arith) lh (λ a q. eqb-false h g e q)
-          ∙ sym (written-other n g frame′ state (group-below (codeOf frame)) (sym l ∙ long) (good .sound .whole) n j h (omega arith) lh (λ a q. eqb-false h g e q))
-
-  changed-alike : (h : ℕ) → h < 18 → stored j h (changed n kind g frame state) ≡ stored j h (changed n kind g frame′ state)
-  unfolding changed
-  changed-alike h lh = go (eqb kind 1) refl
-    where
-      go : (b : Bool) → eqb kind 1 ≡ b → stored j h (changed n kind g frame state) ≡ stored j h (changed n kind g frame′ state)
-      go true e =
-          ap (stored j h) (pick-true (eqb kind 1) _ _ e) ∙ written-alike h lh (eqb-true kind 1 e) ∙ sym (ap (stored j h) (pick-true (eqb kind 1) _ _ e))
-      go false e = ap (stored j h) (pick-false (eqb kind 1) _ _ e) ∙ sym (ap (stored j h) (pick-false (eqb kind 1) _ _ e))
-
+-- the bit of device j + 1 in the word of a good frame
+module _ (n kind : ℕ) (frame frame′ : List ℕ) (j : ℕ) (hj : j < n) (own : wire n j frame ≡ wire n j frame′) where
   report-alike : report n kind frame / 2 ^ j % 2 ≡ report n kind frame′ / 2 ^ j % 2
   unfolding report storedBits
   report-alike = go (eqb kind 1) refl
@@ -95,11 +61,17 @@ alone n k frame frame′ state reply l four wires r r′ after after′ answer a
     good : r .number ≡ 0 → Accepted n frame state (length reply)
     good e = accepted n frame state (length reply) (sym (s .number) ∙ e)
 
+    registers-alike : (h : ℕ) → h < 18 → Accepted n frame state (length reply)
+        → stored j h (changed n (kindOf (codeOf frame)) (groupOf (codeOf frame)) frame state) ≡ stored j h (changed n (kindOf (codeOf frame)) (groupOf (codeOf frame)) frame′ state)
+    registers-alike h lh A =
+        changed-alike n (kindOf (codeOf frame)) (groupOf (codeOf frame)) frame frame′ state state (group-below (codeOf frame)) (A .long) (sym l ∙ A .long) (clear-room (codeOf frame))
+        (A .sound .whole) (A .sound .whole) j hj (wires j hj ne) (λ i li. refl) h lh
+
     by-number : (h : ℕ) → h < 18 → (b : Bool) → eqb (r .number) 0 ≡ b
         → stored j h (chainState (r .number) n frame state) ≡ stored j h (chainState (r .number) n frame′ state)
     by-number h lh true e = unfold chainState in
         (ap (stored j h) (pick-true (eqb (r .number) 0) _ _ e)
-        ∙ changed-alike n frame frame′ state (length reply) j l (good (eqb-true (r .number) 0 e)) hj (wires j hj ne) h lh
+        ∙ registers-alike h lh (good (eqb-true (r .number) 0 e))
         ∙ ap (λ (x : ℕ). stored j h (changed n (kindOf x) (groupOf x) frame′ state)) code
         ∙ sym (ap (stored j h) (pick-true (eqb (r .number) 0) _ _ e)))
     by-number h lh false e = unfold chainState in
@@ -116,7 +88,7 @@ alone n k frame frame′ state reply l four wires r r′ after after′ answer a
     word-by : (b : Bool) → eqb (r .number) 0 ≡ b → bit (chainWord (r .number) n frame) ≡ bit (chainWord (r .number) n frame′)
     word-by true e = unfold chainWord in
         (ap bit (pick-true (eqb (r .number) 0) _ _ e)
-        ∙ report-alike n frame frame′ state (length reply) j l (good (eqb-true (r .number) 0 e)) hj (wires j hj ne)
+        ∙ report-alike n (kindOf (codeOf frame)) frame frame′ j hj (wires j hj ne)
         ∙ ap (λ (x : ℕ). bit (report n (kindOf x) frame′)) code
         ∙ sym (ap bit (pick-true (eqb (r .number) 0) _ _ e)))
     word-by false e = unfold chainWord in (ap bit (pick-false (eqb (r .number) 0) _ _ e) ∙ sym (ap bit (pick-false (eqb (r .number) 0) _ _ e)))

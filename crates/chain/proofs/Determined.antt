@@ -5,7 +5,7 @@ use Prim.Native.Nat.{ℕ}
 use Rattle.chain.specs.declared.Heard.{Heard}
 use Rattle.chain.specs.Chain.{chainWord, chainState, chainReply, Serves}
 
-abbrev heard : ℕ → ℕ → Heard
+abbrev pub heard : ℕ → ℕ → Heard
 heard number word = record { number = number; word = word }
 
 pub chain-determined : (n : ℕ) (frame state reply : List ℕ) (r r′ : Heard) (after after′ answer answer′ : List ℕ)

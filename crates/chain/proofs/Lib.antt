@@ -9,4 +9,5 @@ pub mod Determined
 pub mod CodeLaws
 pub mod Accepted
 pub mod PinLaws
+pub mod PinShown
 pub mod Alone

@@ -1,25 +1,29 @@
 -- What each kind of command does, put together: the word, the state, and the answers laid into the reply; the state stays as long as it was, and bytes,
--- and pins and the stored DTEN stay. Assumes nothing.
-use mathlib.Core.Path.{_≡_, refl, ap, _∙_}
+-- pins and the stored DTEN stay; and each device stands alone. Assumes nothing.
+use mathlib.Core.Path.{_≡_, refl, sym, ap, ap₂, _∙_, subst}
 use mathlib.Core.Bool.{Bool, true, false}
-use mathlib.Core.Logic.{inl}
+use mathlib.Core.Logic.{_⊎_, inl, inr, ⊎-elim}
 use mathlib.Core.List.{List}
 use Prim.Native.Nat.{ℕ, _+_, _-_, _*_, _^_, _≤_, _<_}
 use native.Mathlib.Omega.{arith}
-use borrow.Author.Tests.{eqb-true, ne-eqb, lt-ltb}
+use borrow.Author.Tests.{eqb-true, eqb-false, ne-eqb, lt-ltb}
+use lib.Dec.{eqb}
 use borrow.Rule.Slice.PartMut.{putMid}
-use lib.ListN.{length}
+use lib.ListN.{length, take}
 use Rattle.lent.specs.Bytes.{Bytes}
 use Rattle.lent.specs.Memory.{splice}
 use Rattle.lent.specs.Refusal.{pick}
 use Rattle.lent.proofs.Splice.{splice-put}
+use Rattle.lent.proofs.Tests.{lt-or-le}
+use Rattle.pec.specs.Group.{right}
 use Rattle.frames.specs.Kind.{isWrite, isRead, isClear, frameLength}
+use Rattle.frames.specs.Places.{wire}
 use Rattle.frames.proofs.KindCases.{length-long}
-use Rattle.chain.specs.Dten.{dten}
+use Rattle.chain.specs.Dten.{dten, withDten}
 use Rattle.chain.specs.State.{stateLength, stored, pin}
 use Rattle.chain.specs.Effect.{answers, written, storedBits, clearCount, cleared, changed, report}
-use Rattle.chain.proofs.WriteLaws.{length-written, written-pin, written-bit, bytes-written}
-use Rattle.chain.proofs.ClearLaws.{length-cleared, cleared-other, cleared-pin, bytes-cleared}
+use Rattle.chain.proofs.WriteLaws.{length-written, written-other, written-own, written-pin, written-bit, bytes-written}
+use Rattle.chain.proofs.ClearLaws.{length-cleared, cleared-other, cleared-own, cleared-pin, bytes-cleared}
 
 module _ (n kind g : ℕ) (frame state reply : List ℕ) where
   pub obeyed-write : (word : ℕ) (state′ : List ℕ) → kind ≡ 1 → word ≡ storedBits n n frame → state′ ≡ written n n g frame state
@@ -80,3 +84,52 @@ module _ (n kind g : ℕ) (frame state : List ℕ) where
     bit-changed high k h =
         by-kind (λ (x : List ℕ). dten (stored k 0 x) ≡ dten (stored k 0 state)) (λ w. written-bit n g frame state hg (size w) whole k h)
         (λ c. ap dten (cleared-other n g (clearCount g) state (room c) whole n k 0 (omega arith) (omega arith) (λ a. inl (high c)))) refl
+
+-- A DEVICE STANDS ALONE: what its registers become goes by its own group on the wire and by what they were
+module _ (n kind g : ℕ) (frame frame′ state state′ : List ℕ) (hg : g < 18) (long : length frame ≡ frameLength n kind) (long′ : length frame′ ≡ frameLength n kind)
+    (room : kind ≡ 3 → g + clearCount g ≤ 18) (whole : length state ≡ stateLength n) (whole′ : length state′ ≡ stateLength n) (j : ℕ) (hj : j < n)
+    (own : wire n j frame ≡ wire n j frame′) (old : (h : ℕ) → h < 18 → stored j h state ≡ stored j h state′) where
+  written-alike : (h : ℕ) → h < 18 → kind ≡ 1 → stored j h (written n n g frame state) ≡ stored j h (written n n g frame′ state′)
+  written-alike h lh write = go (eqb h g) refl
+    where
+      size : length frame ≡ 4 + 8 * n
+      size = long ∙ length-long n kind (omega arith)
+
+      size′ : length frame′ ≡ 4 + 8 * n
+      size′ = long′ ∙ length-long n kind (omega arith)
+
+      go : (b : Bool) → eqb h g ≡ b → stored j h (written n n g frame state) ≡ stored j h (written n n g frame′ state′)
+      go true e =
+          subst (λ (x : ℕ). stored j x (written n n g frame state) ≡ stored j x (written n n g frame′ state′)) (sym (eqb-true h g e))
+          (written-own n g frame state hg size whole n j (omega arith) hj
+          ∙ ap₂ (λ (x y : List ℕ). pick (right x) (withDten g (dten y) (take 6 x)) y) own (old g hg)
+          ∙ sym (written-own n g frame′ state′ hg size′ whole′ n j (omega arith) hj))
+      go false e =
+          written-other n g frame state hg size whole n j h (omega arith) lh (λ a q. eqb-false h g e q)
+          ∙ old h lh
+          ∙ sym (written-other n g frame′ state′ hg size′ whole′ n j h (omega arith) lh (λ a q. eqb-false h g e q))
+
+  cleared-alike : (h : ℕ) → h < 18 → kind ≡ 3 → stored j h (cleared n g (clearCount g) state) ≡ stored j h (cleared n g (clearCount g) state′)
+  cleared-alike h lh clear = ⊎-elim (λ a. apart (inl a)) (λ a. ⊎-elim (λ b. within a b) (λ b. apart (inr b)) (lt-or-le h (g + clearCount g))) (lt-or-le h g)
+    where
+      apart : (h < g) ⊎ (g + clearCount g ≤ h) → stored j h (cleared n g (clearCount g) state) ≡ stored j h (cleared n g (clearCount g) state′)
+      apart e =
+          cleared-other n g (clearCount g) state (room clear) whole n j h (omega arith) lh (λ a. e)
+          ∙ old h lh
+          ∙ sym (cleared-other n g (clearCount g) state′ (room clear) whole′ n j h (omega arith) lh (λ a. e))
+
+      within : g ≤ h → h < g + clearCount g → stored j h (cleared n g (clearCount g) state) ≡ stored j h (cleared n g (clearCount g) state′)
+      within a b =
+          cleared-own n g (clearCount g) state (room clear) whole n j h (omega arith) hj a b
+          ∙ sym (cleared-own n g (clearCount g) state′ (room clear) whole′ n j h (omega arith) hj a b)
+
+  pub changed-alike : (h : ℕ) → h < 18 → stored j h (changed n kind g frame state) ≡ stored j h (changed n kind g frame′ state′)
+  unfolding changed
+  changed-alike h lh = go (isWrite kind) refl (isClear kind) refl
+    where
+      go : (w : Bool) → isWrite kind ≡ w → (c : Bool) → isClear kind ≡ c
+          → stored j h (pick w (written n n g frame state) (pick c (cleared n g (clearCount g) state) state))
+          ≡ stored j h (pick w (written n n g frame′ state′) (pick c (cleared n g (clearCount g) state′) state′))
+      go true w c e = unfold pick in written-alike h lh (eqb-true kind 1 w)
+      go false w true e = unfold pick in cleared-alike h lh (eqb-true kind 3 e)
+      go false w false e = unfold pick in old h lh

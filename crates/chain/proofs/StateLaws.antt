@@ -111,11 +111,11 @@ pub pin-room : (n k : ℕ) → k < n → pinSpot k < stateLength n
 unfolding pinSpot stateLength
 pin-room n k h = omega arith
 
-pin-apart : (j k g count : ℕ) → g + count ≤ 18 → (pinSpot j + 1 ≤ spot k g) ⊎ (spot k g + 6 * count ≤ pinSpot j)
+pub pin-apart : (j k g count : ℕ) → g + count ≤ 18 → (pinSpot j + 1 ≤ spot k g) ⊎ (spot k g + 6 * count ≤ pinSpot j)
 unfolding pinSpot spot
 pin-apart j k g count l = ⊎-elim (λ a. inl (omega arith)) (λ a. inr (omega arith)) (lt-or-le j k)
 
-one-byte : (xs : List ℕ) (i : ℕ) → getD xs i 0 ≡ getD (take 1 (drop i xs)) 0 0
+pub one-byte : (xs : List ℕ) (i : ℕ) → getD xs i 0 ≡ getD (take 1 (drop i xs)) 0 0
 one-byte xs i = let e : i + 0 ≡ i = omega arith in sym (getD-take 1 (drop i xs) 0 0 (omega arith) ∙ getD-drop i xs 0 0 ∙ ap (λ (j : ℕ). getD xs j 0) e)
 
 -- what is laid over groups leaves every pin

@@ -3,9 +3,8 @@
 use Prim.Native.Nat.{ℕ, _+_, _*_, _≤_, _<_}
 use mathlib.Core.Path.{_≡_}
 use mathlib.Core.Bool.{Bool, true, _&&_}
-use mathlib.Core.List.{List}
+use mathlib.Core.List.{List, [], _∷_}
 use lib.Dec.{eqb}
-use lib.ListN.{set}
 use Rattle.lent.specs.Memory.{splice}
 use Rattle.lent.specs.Refusal.{pick}
 use Rattle.pec.specs.Group.{withPec}
@@ -13,7 +12,7 @@ use Rattle.frames.specs.Kind.{isRead}
 use Rattle.frames.specs.Commands.{kindOf, groupOf}
 use Rattle.frames.specs.Places.{eight}
 use Rattle.chain.specs.Dten.{dten, withDten}
-use Rattle.chain.specs.State.{spot, pinSpot, stored, pin, shown, storing}
+use Rattle.chain.specs.State.{spot, pinSpot, stored, pin, shown, storing, Sound}
 use Rattle.chain.specs.Chain.{codeOf, Serves}
 use Rattle.chain.specs.declared.Heard.{Heard}
 
@@ -29,13 +28,13 @@ readsCfga number frame = eqb number 0 && (isRead (kindOf (codeOf frame)) && eqb 
 
 -- the state with the pin of device j + 1 put to p
 unfoldable pub withPin : ℕ → ℕ → List ℕ → List ℕ
-withPin j p state = set state (pinSpot j) p
+withPin j p state = splice (pinSpot j) (p ∷ []) state
 
--- A pin changed between 0 and 1 changes its own byte, and of a read of CFGA that device's group: DTEN, which shows the pin, and with it the check word.
--- Number, word, every other byte of the state and every other byte of every reply are as they were.
+-- A pin of a sound state changed between 0 and 1 changes its own byte, and of a read of CFGA that device's group: DTEN, which shows the pin, and with it the
+-- check word. Number, word, every other byte of the state and every other byte of every reply are as they were.
 abbrev pub PinShows : Type 0
 PinShows =
-    (n j p : ℕ) (frame state reply : List ℕ) → j < n → pin j state ≤ 1 → p ≤ 1
+    (n j p : ℕ) (frame state reply : List ℕ) → Sound n state → j < n → p ≤ 1
     → (r r′ : Heard) (after after′ answer answer′ : List ℕ) → Serves n frame state reply r after answer → Serves n frame (withPin j p state) reply r′ after′ answer′
     → (r ≡ r′)
     × (after′ ≡ withPin j p after)

@@ -1,12 +1,12 @@
 -- Parts of lists that lib.Seq leaves out: of one value repeated, and of a list that is made of pieces, one after the other. Assumes nothing.
-use mathlib.Core.Path.{_≡_, refl, sym, ap, _∙_, subst}
+use mathlib.Core.Path.{_≡_, refl, sym, ap, ap₂, _∙_, subst}
 use mathlib.Core.Logic.{⊎-elim}
 use mathlib.Core.List.{List, [], _∷_, _++_}
 use Prim.Native.Nat.{ℕ, zero, suc, _+_, _*_, _-_, _≤_, _<_}
 use native.Mathlib.Nat.{le-of-suc-le-suc, eq-or-lt-of-le, mul-suc, mul-le-mul-left}
 use native.Mathlib.Omega.{arith}
 use lib.ListN.{length, getD, take, drop, replicate, length-append, length-drop, List·getD-append}
-use lib.Seq.{drop-at, take-all, drop-append-le, take-append-le, getD-at}
+use lib.Seq.{drop-at, take-add, take-all, drop-append-le, take-append-le, getD-at}
 
 pub take-replicate : (n m v : ℕ) → n ≤ m → take n (replicate m v) ≡ replicate n v
 take-replicate zero m v h = refl
@@ -44,6 +44,19 @@ module _ (whole piece : ℕ → List ℕ) (none : whole 0 ≡ []) (more : (k : �
           let room : m * k + m ≤ length (whole j) = omega (arith, length-pieces j (omega arith), mul-suc m k, mul-le-mul-left m a) in
           ap (take m) (drop-append-le (m * k) (whole j) (piece j) (omega arith))
           ∙ take-append-le m (drop (m * k) (whole j)) (piece j) (omega (arith, length-drop (m * k) (whole j)))
+
+-- two lists are equal where they agree in each piece
+module _ (m n : ℕ) (x y : List ℕ) (each : (k : ℕ) → k < n → take m (drop (m * k) x) ≡ take m (drop (m * k) y)) where
+  same-pieces : (j : ℕ) → j ≤ n → take (m * j) x ≡ take (m * j) y
+  same-pieces zero h = let none : m * 0 ≡ 0 = omega arith in ap (λ (i : ℕ). take i x) none ∙ sym (ap (λ (i : ℕ). take i y) none)
+  same-pieces (suc j) h =
+      let e : m * suc j ≡ m * j + m = mul-suc m j in
+      ap (λ (i : ℕ). take i x) e ∙ take-add (m * j) m x
+      ∙ ap₂ (λ (a b : List ℕ). a ++ b) (same-pieces j (omega arith)) (each j h)
+      ∙ sym (take-add (m * j) m y) ∙ ap (λ (i : ℕ). take i y) (sym e)
+
+  pub pieces-ext : length x ≡ m * n → length y ≡ m * n → x ≡ y
+  pieces-ext lx ly = sym (take-all (m * n) x (omega arith)) ∙ same-pieces n (omega arith) ∙ take-all (m * n) y (omega arith)
 
 -- PIECES OF ONE ELEMENT
 module _ (whole : ℕ → List ℕ) (value : ℕ → ℕ) (none : whole 0 ≡ []) (more : (k : ℕ) → whole (suc k) ≡ whole k ++ (value k ∷ [])) where

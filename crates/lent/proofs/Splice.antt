@@ -1,13 +1,13 @@
 -- Laws of `splice`: a part of lent memory that was written, or kept. Assumes nothing.
 use mathlib.Core.Path.{_≡_, sym, ap, _∙_}
 use mathlib.Core.Bool.{Bool, true, false}
-use mathlib.Core.List.{List, _++_}
+use mathlib.Core.List.{List, _++_, append-assoc}
 use Prim.Native.Nat.{ℕ, _+_, _-_, _≤_}
 use native.Mathlib.Omega.{arith}
 use lib.ListN.{length, take, drop, length-append, length-take, length-drop, take-append-drop}
 use lib.Seq.{drop-drop, take-at, drop-at, length-take-le, drop-append-le, drop-append-add, take-append-le}
 use borrow.Rule.Slice.PartMut.{putMid, put-same}
-use Rattle.lent.specs.Memory.{splice}
+use Rattle.lent.specs.Memory.{over, splice}
 use Rattle.lent.specs.Refusal.{pick}
 
 pub length-splice : (at : ℕ) (new old : List ℕ) → at + length new ≤ length old → length (splice at new old) ≡ length old
@@ -25,6 +25,15 @@ pub put-pick : (b : Bool) (at to : ℕ) (after old new : List ℕ) → to ≡ at
 unfolding pick
 put-pick true at to after old new t e = rw e (splice-put at to new old t)
 put-pick false at to after old new t e = rw e (put-same at (to - at) old)
+
+-- a piece replaced within what was laid over the start of a list
+pub splice-over : (at : ℕ) (piece new old : List ℕ) → at + length piece ≤ length new → splice at piece (over new old) ≡ over (splice at piece new) old
+unfolding over
+splice-over at piece new old h =
+    rest (drop (length new) old) ∙ ap (λ (i : ℕ). splice at piece new ++ drop i old) (sym (length-splice at piece new h))
+  where
+    rest : (tail : List ℕ) → splice at piece (new ++ tail) ≡ splice at piece new ++ tail
+    rest tail = unfold splice in rw (take-append-le at new tail (omega arith), drop-append-le (at + length piece) new tail h) (simp append-assoc)
 
 -- PARTS of a list in which a piece was replaced: the piece itself, inside it, before it, after it.
 from-splice : (at : ℕ) (new old : List ℕ) → at + length new ≤ length old → drop at (splice at new old) ≡ new ++ drop (at + length new) old

@@ -7,7 +7,7 @@ use Prim.Native.Nat.{ℕ, suc, _+_, _-_, _^_, _≤_, _<_}
 use native.Mathlib.Omega.{arith}
 use borrow.Author.Tests.{leb-true, leb-false}
 use lib.Dec.{eqb, leb}
-use lib.ListN.{length, replicate}
+use lib.ListN.{replicate}
 use Rattle.lent.specs.Refusal.{pick}
 use Rattle.frames.specs.Commands.{Row, rows, found, kindOf, groupOf}
 use Rattle.lent.proofs.Tests.{each-below}

@@ -7,7 +7,7 @@ use Prim.Native.Nat.{ℕ, _+_, _*_, _/_, _%_, _≤_, _<_}
 use native.Mathlib.Omega.{arith}
 use borrow.Author.Tests.{eqb-true, eq-eqb, not-true}
 use lib.Dec.{eqb}
-use lib.ListN.{length, getD, drop, replicate, getD-replicate}
+use lib.ListN.{getD, drop, replicate, getD-replicate}
 use lib.Seq.{getD-take, getD-drop}
 use Rattle.lent.specs.Bytes.{Bytes}
 use Rattle.lent.specs.LowFirst.{lowFirstAt}

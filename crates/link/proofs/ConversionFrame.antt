@@ -3,7 +3,6 @@ use mathlib.Core.Path.{_≡_, refl, _∙_}
 use mathlib.Core.Bool.{Bool, true, false}
 use mathlib.Core.List.{List}
 use Prim.Native.Nat.{ℕ, _-_, _^_, _≤_}
-use lib.ListN.{length}
 use Rattle.lent.specs.Refusal.{pick}
 use Rattle.chain.specs.State.{Sound}
 use Rattle.chain.specs.Effect.{changed, report}

@@ -1,12 +1,11 @@
 -- Six bytes for each device, one device after the other: two such lists are equal where they agree at each device; what devices hold, and what was written to
 -- them, as a read shows it. Assumes nothing.
-use mathlib.Core.Path.{_≡_, refl, sym, ap, ap₂, _∙_}
-use mathlib.Core.List.{List, _++_}
-use Prim.Native.Nat.{ℕ, zero, suc, _+_, _*_, _≤_, _<_}
+use mathlib.Core.Path.{_≡_, refl, _∙_}
+use mathlib.Core.List.{List}
+use Prim.Native.Nat.{ℕ, _*_, _≤_, _<_}
 use native.Mathlib.Omega.{arith}
-use lib.ListN.{length, take}
-use lib.Seq.{take-add, take-all}
-use Rattle.lent.proofs.Parts.{length-pieces, piece-at}
+use lib.ListN.{length}
+use Rattle.lent.proofs.Parts.{length-pieces, piece-at, pieces-ext}
 use Rattle.frames.specs.Places.{six}
 use Rattle.frames.proofs.GroupLaws.{length-six}
 use Rattle.chain.specs.Dten.{withDten}
@@ -15,17 +14,9 @@ use Rattle.chain.proofs.DtenLaws.{length-withDten, no-dten}
 use Rattle.chain.proofs.StateLaws.{length-shown}
 use Rattle.link.specs.Demands.{held, readBack}
 
-six-same : (n : ℕ) (x y : List ℕ) → ((k : ℕ) → k < n → six k x ≡ six k y) → (j : ℕ) → j ≤ n → take (6 * j) x ≡ take (6 * j) y
-unfolding six
-six-same n x y h zero l = refl
-six-same n x y h (suc j) l =
-    let e : 6 * suc j ≡ 6 * j + 6 = omega arith in
-    ap (λ (i : ℕ). take i x) e ∙ take-add (6 * j) 6 x
-    ∙ ap₂ (λ (a b : List ℕ). a ++ b) (six-same n x y h j (omega arith)) (h j l)
-    ∙ sym (take-add (6 * j) 6 y) ∙ ap (λ (i : ℕ). take i y) (sym e)
-
 pub six-ext : (n : ℕ) (x y : List ℕ) → length x ≡ 6 * n → length y ≡ 6 * n → ((k : ℕ) → k < n → six k x ≡ six k y) → x ≡ y
-six-ext n x y lx ly h = sym (take-all (6 * n) x (omega arith)) ∙ six-same n x y h n (omega arith) ∙ take-all (6 * n) y (omega arith)
+unfolding six
+six-ext n x y lx ly h = pieces-ext 6 n x y h lx ly
 
 module _ (n g : ℕ) (state : List ℕ) (hg : g < 18) (whole : length state ≡ stateLength n) where
   own-six : (j : ℕ) → j < n → length (shown j g state) ≡ 6

@@ -1,23 +1,21 @@
 -- `chain::read::put_answer` shows a group, and of CFGA the pin as DTEN. Assumes nothing.
-use mathlib.Core.Path.{_≡_, sym, ap, _∙_}
+use mathlib.Core.Path.{sym, ap, _∙_}
 use mathlib.Core.List.{List}
 use Prim.Native.Nat.{ℕ}
 use native.Mathlib.Omega.{arith}
 use borrow.Author.Needs.{needs}
-use lib.ListN.{length, getD}
+use lib.ListN.{getD}
 use Rattle.pec.specs.Group.{withPec}
 use Rattle.lent.proofs.Over.{over-full}
 use Rattle.chain.specs.Dten.{withBit}
 use Rattle.chain.proofs.DtenLaws.{dten-laid, no-dten}
 use Rattle.chain.proofs.read.put_answer.Statement.{statement}
 use Rattle.chain.proofs.read.put_answer.Tie as tie
-use Rattle.chain.proofs.read.put_answer.Reads as reads
-use Rattle.chain.proofs.read.put_answer.Lts as lts
 
 returns : tie.Need-returns
 returns c =
     let a = c .before .before .before .before .before .before .before .args in
-    c .before .before .put-group .ensures ∙ ap withPec (sym (no-dten (a .group) (a .pin) (a .registers .now) (c .before .before .before .before .if1 .taken)))
+    c .before .before .put-group .ensures ∙ ap withPec (sym (no-dten (a .group) (a .pin) (a .registers .now) (λ e. omega arith)))
 
 returns-2 : tie.Need-returns-2
 returns-2 c =

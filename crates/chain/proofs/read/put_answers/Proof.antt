@@ -5,8 +5,9 @@ use native.Mathlib.Omega.{arith}
 use lib.ListN.{length}
 use Rattle.lent.specs.Memory.{over}
 use Rattle.lent.proofs.Over.{over-none, over-full}
+use Rattle.chain.specs.State.{stateLength, pinSpot}
 use Rattle.chain.specs.Effect.{answers}
-use Rattle.chain.proofs.StateLaws.{room-at, size-most, pin-room, pin-small}
+use Rattle.chain.proofs.StateLaws.{room-at, size-most, pin-small}
 use Rattle.chain.proofs.ReadLaws.{length-answers, turn}
 use Rattle.chain.proofs.read.put_answers.Statement.{statement}
 use Rattle.chain.proofs.read.put_answers.Tie as tie
@@ -33,10 +34,10 @@ part-put-answer-end c =
     omega (arith, start .pre .3 .whole, room-at (start .args .n) _ _ 1 _ (c .before .spot .ensures) (omega arith) (omega arith))
 
 shared-slice-read-put-answer : tie.Need-shared-slice-read-put-answer Inv-loop μ-loop
+unfolding pinSpot stateLength
 shared-slice-read-put-answer c =
     let spots = c .before .before in
-    let start = spots .before .before .before .before .before .before in
-    omega (arith, start .pre .3 .whole, spots .pin-spot .ensures, pin-room (start .args .n) (spots .before .before .before .loop .k) (omega arith))
+    omega (arith, spots .before .before .before .before .before .before .pre .3 .whole, spots .pin-spot .ensures)
 
 put-answer-requires : tie.Need-put-answer-requires Inv-loop μ-loop
 put-answer-requires c κs =

@@ -3,8 +3,8 @@ use mathlib.Core.Path.{_≡_, refl, sym, ap, _∙_}
 use mathlib.Core.Bool.{false}
 use Prim.Native.Nat.{ℕ, _≤_, _-_}
 use native.Mathlib.Omega.{arith}
-use Rattle.chain.specs.State.{pinAbove}
-use Rattle.chain.proofs.StateLaws.{pin-room, none-yet, one-above}
+use Rattle.chain.specs.State.{stateLength, pinSpot, pinAbove}
+use Rattle.chain.proofs.StateLaws.{none-yet, one-above}
 use Rattle.chain.proofs.state.pin_above.Statement.{statement}
 use Rattle.chain.proofs.state.pin_above.Tie as tie
 
@@ -19,14 +19,13 @@ unfolding pinAbove
 loop-holds c = (omega arith, refl)
 
 shared-slice-read-if1 : tie.Need-shared-slice-read-if1 Inv-loop μ-loop
-shared-slice-read-if1 c =
-    let start = c .before .before .before .before .before in
-    omega (arith, start .pre .1, c .before .pin-spot .ensures, pin-room (start .args .n) (c .before .before .before .loop .k) (omega arith))
+unfolding pinSpot stateLength
+shared-slice-read-if1 c = omega (arith, c .before .pin-spot .ensures)
 
 returns : tie.Need-returns Inv-loop μ-loop
 returns c =
     let a = c .before .before .before .before .before .before .args in
-    sym (one-above (a .n) (c .before .before .before .before .loop .k) _ (a .state .now) (c .before .before .pin-spot .ensures) (omega arith) (c .if1 .taken))
+    sym (one-above (a .n) _ _ (a .state .now) (c .before .before .pin-spot .ensures) (omega arith) (omega arith))
 
 loop-again : tie.Need-loop-again Inv-loop μ-loop
 loop-again c =

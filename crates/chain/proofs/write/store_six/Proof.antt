@@ -1,16 +1,12 @@
 -- `chain::write::store_six` stores six bytes, and of CFGA keeps DTEN. Assumes nothing.
-use mathlib.Core.Path.{_≡_, sym, ap, _∙_}
-use mathlib.Core.List.{List}
+use mathlib.Core.Path.{sym, _∙_}
 use native.Mathlib.Omega.{arith}
 use borrow.Author.Needs.{needs}
-use lib.ListN.{length}
 use Rattle.lent.proofs.Over.{over-full}
 use Rattle.chain.specs.Dten.{dten}
 use Rattle.chain.proofs.DtenLaws.{dten-laid, no-dten}
 use Rattle.chain.proofs.write.store_six.Statement.{statement}
 use Rattle.chain.proofs.write.store_six.Tie as tie
-use Rattle.chain.proofs.write.store_six.Reads as reads
-use Rattle.chain.proofs.write.store_six.Lts as lts
 
 returns : tie.Need-returns
 returns c =

@@ -1,0 +1,356 @@
+-- A pin changed between 0 and 1 changes its own byte, and of a read of CFGA that device's group: nothing else. Assumes nothing.
+use mathlib.Core.Path.{_≡_, refl, sym, ap, ap₂, _∙_, subst}
+use mathlib.Core.Bool.{Bool, true, false, _&&_}
+use mathlib.Core.Logic.{⊎-elim}
+use mathlib.Core.List.{List, [], _∷_, _++_}
+use Prim.Native.Nat.{ℕ, zero, suc, _+_, _*_, _/_, _%_, _≤_, _<_}
+use native.Mathlib.Nat.{eq-or-lt-of-le}
+use native.Mathlib.Omega.{arith}
+use borrow.Author.Tests.{eqb-true, eqb-false}
+use lib.Dec.{eqb}
+use lib.ListN.{length, getD, take, drop, length-append, length-drop, take-append-drop, List·getD-append}
+use lib.Seq.{drop-drop, drop-append-le, take-append-le, take-at}
+use Rattle.lent.specs.Memory.{over, splice}
+use Rattle.lent.specs.Refusal.{pick}
+use Rattle.lent.proofs.Parts.{pieces-ext}
+use Rattle.lent.proofs.Pick.{pick-true, pick-false}
+use Rattle.lent.proofs.Splice.{length-splice, splice-over, splice-same, splice-before, splice-after}
+use Rattle.lent.proofs.Tests.{and-left, and-right, lt-or-le}
+use Rattle.pec.specs.Group.{twoBytes, withPec}
+use Rattle.pec.specs.Register.{pecOf}
+use Rattle.pec.proofs.Group.{length-withPec}
+use Rattle.frames.specs.Kind.{isRead}
+use Rattle.frames.specs.Commands.{kindOf, groupOf}
+use Rattle.frames.specs.Places.{eight}
+use Rattle.frames.proofs.Lookup.{group-below}
+use Rattle.chain.specs.Dten.{dten, withDten}
+use Rattle.chain.specs.State.{stateLength, spot, pinSpot, stored, pin, shown, Sound}
+use Rattle.chain.specs.Effect.{silence, answers, answer, changed}
+use Rattle.chain.specs.Chain.{codeOf, chainNumber, chainWord, chainState, chainReply, Serves}
+use Rattle.chain.specs.Pins.{withPin, readsCfga, PinShows}
+use Rattle.chain.specs.declared.Heard.{Heard}
+use Rattle.chain.proofs.DtenLaws.{no-dten, dten-with, length-withDten}
+use Rattle.chain.proofs.StateLaws.{shown-alike, state-ext, length-stored, length-shown, none-above, pin-room, pin-apart, one-byte}
+use Rattle.chain.proofs.ClearLaws.{clear-room, length-silence}
+use Rattle.chain.proofs.ReadLaws.{length-answers, eight-answers}
+use Rattle.chain.proofs.Obeyed.{length-changed, changed-alike}
+use Rattle.chain.proofs.Accepted.{Accepted, accepted}
+use Rattle.chain.proofs.PinLaws.{pins-stay}
+use Rattle.chain.proofs.Determined.{heard}
+
+-- THE STATE WITH ANOTHER PIN
+pins-apart : (k j : ℕ) → k < j → pinSpot k + 1 ≤ pinSpot j
+unfolding pinSpot
+pins-apart k j h = omega arith
+
+module _ (n j p : ℕ) (state : List ℕ) (hj : j < n) (whole : length state ≡ stateLength n) where
+  one-fits : pinSpot j + 1 ≤ length state
+  one-fits = omega (arith, pin-room n j hj)
+
+  pub length-withPin : length (withPin j p state) ≡ stateLength n
+  unfolding withPin
+  length-withPin = length-splice (pinSpot j) (p ∷ []) state one-fits ∙ whole
+
+  pub pin-own : pin j (withPin j p state) ≡ p
+  unfolding withPin pin
+  pin-own = one-byte (splice (pinSpot j) (p ∷ []) state) (pinSpot j) ∙ ap (λ (x : List ℕ). getD x 0 0) (splice-same (pinSpot j) 1 (p ∷ []) state refl one-fits)
+
+  pub pin-other : (k : ℕ) → (k ≡ j → ⊥) → pin k (withPin j p state) ≡ pin k state
+  unfolding withPin pin
+  pin-other k ne =
+      one-byte (splice (pinSpot j) (p ∷ []) state) (pinSpot k)
+      ∙ ap (λ (x : List ℕ). getD x 0 0)
+      (⊎-elim
+      (λ a. splice-before (pinSpot k) 1 (pinSpot j) (p ∷ []) state (pins-apart k j a) (omega (arith, one-fits)))
+      (λ a. ⊎-elim (λ e. absurd (ne (sym e))) (λ b. splice-after (pinSpot k) 1 (pinSpot j) (p ∷ []) state (pins-apart j k b) one-fits) (eq-or-lt-of-le a))
+      (lt-or-le k j))
+      ∙ sym (one-byte state (pinSpot k))
+
+  pub stored-withPin : (k h : ℕ) → h < 18 → stored k h (withPin j p state) ≡ stored k h state
+  unfolding withPin stored
+  stored-withPin k h lh =
+      ⊎-elim
+      (λ a. splice-after (spot k h) 6 (pinSpot j) (p ∷ []) state a one-fits)
+      (λ a. splice-before (spot k h) 6 (pinSpot j) (p ∷ []) state (omega arith) (omega (arith, one-fits)))
+      (pin-apart j k h 1 (omega arith))
+
+-- A REPLY, group by group
+eight-ext : (n : ℕ) (x y : List ℕ) → length x ≡ 4 + 8 * n → length y ≡ 4 + 8 * n → take 4 x ≡ take 4 y → ((k : ℕ) → k < n → eight k x ≡ eight k y) → x ≡ y
+unfolding eight
+eight-ext n x y lx ly four each =
+    sym (take-append-drop 4 x)
+    ∙ ap₂ (λ (a b : List ℕ). a ++ b) four
+    (pieces-ext 8 n (drop 4 x) (drop 4 y) (λ k h. ap (take 8) (drop-drop (8 * k) 4 x) ∙ each k h ∙ sym (ap (take 8) (drop-drop (8 * k) 4 y)))
+    (omega (arith, length-drop 4 x)) (omega (arith, length-drop 4 y)))
+    ∙ take-append-drop 4 y
+
+eight-over : (k : ℕ) (new old : List ℕ) → 4 + 8 * k + 8 ≤ length new → eight k (over new old) ≡ eight k new
+unfolding eight over
+eight-over k new old h =
+    ap (take 8) (drop-append-le (4 + 8 * k) new (drop (length new) old) (omega arith))
+    ∙ take-append-le 8 (drop (4 + 8 * k) new) (drop (length new) old) (omega (arith, length-drop (4 + 8 * k) new))
+
+-- a group replaced: itself, and those before and behind it
+module _ (j k : ℕ) (piece reply : List ℕ) (long : length piece ≡ 8) (fits : 4 + 8 * j + 8 ≤ length reply) where
+  eight-own : eight j (splice (4 + 8 * j) piece reply) ≡ piece
+  unfolding eight
+  eight-own = splice-same (4 + 8 * j) 8 piece reply long fits
+
+  eight-before : k < j → eight k (splice (4 + 8 * j) piece reply) ≡ eight k reply
+  unfolding eight
+  eight-before h = splice-before (4 + 8 * k) 8 (4 + 8 * j) piece reply (omega arith) (omega arith)
+
+  eight-behind : j < k → eight k (splice (4 + 8 * j) piece reply) ≡ eight k reply
+  unfolding eight
+  eight-behind h = splice-after (4 + 8 * k) 8 (4 + 8 * j) piece reply (omega arith) (omega arith)
+
+dten-withPec : (xs : List ℕ) → 0 < length xs → dten (withPec xs) ≡ dten xs
+unfolding dten withPec
+dten-withPec xs h = ap (λ (x : ℕ). x / 2 % 2) (List·getD-append xs (twoBytes (pecOf xs)) 0 0 h)
+
+-- the reply to a read
+abbrev shownBy : ℕ → ℕ → List ℕ → List ℕ
+shownBy n g state = silence 4 ++ answers n g state
+
+length-shownBy : (n g : ℕ) (state : List ℕ) → g < 18 → length state ≡ stateLength n → length (shownBy n g state) ≡ 4 + 8 * n
+length-shownBy n g state hg whole =
+    length-append (silence 4) (answers n g state) ∙ omega (arith, length-silence 4, length-answers n g state hg whole n (omega arith))
+
+-- ANOTHER PIN of device j + 1
+module _ (n j p : ℕ) (state : List ℕ) (S : Sound n state) (hj : j < n) (lp : p ≤ 1) where
+  abbrev other : List ℕ
+  other = withPin j p state
+
+  abbrev group : List ℕ
+  group = withPec (withDten 0 p (stored j 0 state))
+
+  other-whole : length other ≡ stateLength n
+  other-whole = length-withPin n j p state hj (S .whole)
+
+  other-sound : Sound n other
+  other-sound = record { whole = other-whole; pins = λ k h. by-device k h (eqb k j) refl }
+    where
+      by-device : (k : ℕ) → k < n → (b : Bool) → eqb k j ≡ b → pin k other ≤ 1
+      by-device k h true e = omega (arith, ap (λ (i : ℕ). pin i other) (eqb-true k j e), pin-own n j p state hj (S .whole))
+      by-device k h false e = omega (arith, pin-other n j p state hj (S .whole) k (eqb-false k j e), S .pins k h)
+
+  -- what is shown of CFGA, and of every other group
+  shown-own : shown j 0 other ≡ withDten 0 p (stored j 0 state)
+  unfolding shown
+  shown-own = ap₂ (withDten 0) (pin-own n j p state hj (S .whole)) (stored-withPin n j p state hj (S .whole) j 0 (omega arith))
+
+  shown-else : (k : ℕ) → (k ≡ j → ⊥) → shown k 0 other ≡ shown k 0 state
+  shown-else k ne = shown-alike k 0 other state (stored-withPin n j p state hj (S .whole) k 0 (omega arith)) (pin-other n j p state hj (S .whole) k ne)
+
+  shown-plain : (k g : ℕ) → g < 18 → (g ≡ 0 → ⊥) → shown k g other ≡ shown k g state
+  unfolding shown
+  shown-plain k g hg ne =
+      no-dten g (pin k other) (stored k g other) ne ∙ stored-withPin n j p state hj (S .whole) k g hg ∙ sym (no-dten g (pin k state) (stored k g state) ne)
+
+  answers-plain : (g : ℕ) → g < 18 → (g ≡ 0 → ⊥) → (k : ℕ) → answers k g other ≡ answers k g state
+  unfolding answers
+  answers-plain g hg ne zero = refl
+  answers-plain g hg ne (suc k) = ap₂ (λ (a b : List ℕ). a ++ withPec b) (answers-plain g hg ne k) (shown-plain k g hg ne)
+
+  group-long : length group ≡ 8
+  group-long =
+      omega (
+        arith,
+        length-withPec (withDten 0 p (stored j 0 state)),
+        length-withDten 0 p (stored j 0 state),
+        length-stored n j 0 state hj (omega arith) (S .whole),
+      )
+
+  -- the reply to a read of CFGA has that device's group anew, and every other as it was
+  answers-cfga : shownBy n 0 other ≡ splice (4 + 8 * j) group (shownBy n 0 state)
+  answers-cfga =
+      eight-ext n (shownBy n 0 other) (splice (4 + 8 * j) group old) (length-shownBy n 0 other (omega arith) other-whole)
+      (length-splice (4 + 8 * j) group old room ∙ long) four each
+    where
+      old : List ℕ
+      old = shownBy n 0 state
+
+      long : length old ≡ 4 + 8 * n
+      long = length-shownBy n 0 state (omega arith) (S .whole)
+
+      room : 4 + 8 * j + length group ≤ length old
+      room = omega (arith, long, group-long)
+
+      four : take 4 (shownBy n 0 other) ≡ take 4 (splice (4 + 8 * j) group old)
+      four =
+          take-at (silence 4) (answers n 0 other) 4 (length-silence 4)
+          ∙ sym (take-at (silence 4) (answers n 0 state) 4 (length-silence 4))
+          ∙ sym (splice-before 0 4 (4 + 8 * j) group old (omega arith) (omega (arith, room)))
+
+      kept : (k : ℕ) → k < n → (k ≡ j → ⊥) → eight k (shownBy n 0 other) ≡ eight k old
+      kept k h ne =
+          eight-answers n 0 other (omega arith) other-whole k h ∙ ap withPec (shown-else k ne) ∙ sym (eight-answers n 0 state (omega arith) (S .whole) k h)
+
+      fits : 4 + 8 * j + 8 ≤ length old
+      fits = omega (arith, long)
+
+      own : eight j (shownBy n 0 other) ≡ eight j (splice (4 + 8 * j) group old)
+      own = eight-answers n 0 other (omega arith) other-whole j hj ∙ ap withPec shown-own ∙ sym (eight-own j j group old group-long fits)
+
+      each : (k : ℕ) → k < n → eight k (shownBy n 0 other) ≡ eight k (splice (4 + 8 * j) group old)
+      each k h =
+          ⊎-elim (λ l. kept k h (λ e. omega arith) ∙ sym (eight-before j k group old group-long fits l))
+          (λ l. ⊎-elim (λ e. subst (λ (i : ℕ). eight i (shownBy n 0 other) ≡ eight i (splice (4 + 8 * j) group old)) e own)
+          (λ m. kept k h (λ e. omega arith) ∙ sym (eight-behind j k group old group-long fits m)) (eq-or-lt-of-le l))
+          (lt-or-le k j)
+
+  -- the reply of a good frame, by whether it is a read of CFGA
+  reply-changed : (kind g : ℕ) (frame reply : List ℕ) → g < 18 → (c : Bool) → isRead kind ≡ c → (d : Bool) → eqb g 0 ≡ d
+      → over (answer n kind g frame other) reply
+      ≡ pick (c && d) (splice (4 + 8 * j) group (over (answer n kind g frame state) reply)) (over (answer n kind g frame state) reply)
+  unfolding answer
+  reply-changed kind g frame reply hg false e d q = unfold pick in
+      ap (λ (x : List ℕ). over x reply) (pick-false (isRead kind) _ _ e ∙ sym (pick-false (isRead kind) _ _ e))
+  reply-changed kind g frame reply hg true e false q = unfold pick in
+      ap (λ (x : List ℕ). over x reply)
+      (pick-true (isRead kind) _ _ e ∙ ap (λ (x : List ℕ). silence 4 ++ x) (answers-plain g hg (eqb-false g 0 q) n) ∙ sym (pick-true (isRead kind) _ _ e))
+  reply-changed kind g frame reply hg true e true q = unfold pick in
+      (ap (λ (x : List ℕ). over x reply) (pick-true (isRead kind) _ _ e ∙ ap (λ (i : ℕ). shownBy n i other) z ∙ answers-cfga)
+      ∙ sym (splice-over (4 + 8 * j) group (shownBy n 0 state) reply (omega (arith, length-shownBy n 0 state (omega arith) (S .whole), group-long)))
+      ∙ ap (λ (x : List ℕ). splice (4 + 8 * j) group (over x reply)) (sym (pick-true (isRead kind) _ _ e ∙ ap (λ (i : ℕ). shownBy n i state) z)))
+    where
+      z : g ≡ 0
+      z = eqb-true g 0 q
+
+-- A READ OF CFGA shows the pin
+module _ (n : ℕ) (frame state reply : List ℕ) (r : Heard) (after came : List ℕ) (s : Serves n frame state reply r after came) (q : readsCfga (r .number) frame ≡ true) where
+  abbrev kind : ℕ
+  kind = kindOf (codeOf frame)
+
+  abbrev g : ℕ
+  g = groupOf (codeOf frame)
+
+  obeyed : eqb (r .number) 0 ≡ true
+  obeyed = and-left (eqb (r .number) 0) (isRead kind && eqb g 0) (unfold readsCfga in q)
+
+  of-cfga : (isRead kind && eqb g 0) ≡ true
+  of-cfga = and-right (eqb (r .number) 0) (isRead kind && eqb g 0) (unfold readsCfga in q)
+
+  good : Accepted n frame state (length reply)
+  good = accepted n frame state (length reply) (sym (s .number) ∙ eqb-true (r .number) 0 obeyed)
+
+  answered : came ≡ over (shownBy n 0 state) reply
+  unfolding chainReply answer
+  answered =
+      s .answered ∙ pick-true (eqb (r .number) 0) _ _ obeyed
+      ∙ ap (λ (x : List ℕ). over x reply)
+      (pick-true (isRead kind) _ _ (and-left (isRead kind) (eqb g 0) of-cfga) ∙ ap (λ (i : ℕ). shownBy n i state) (eqb-true g 0 (and-right (isRead kind) (eqb g 0) of-cfga)))
+
+  shows : (k : ℕ) → k < n → dten (eight k came) ≡ pin k state
+  shows k h =
+      let whole = good .sound .whole in
+      ap (λ (x : List ℕ). dten (eight k x)) answered
+      ∙ ap dten
+      (eight-over k (shownBy n 0 state) reply (omega (arith, length-shownBy n 0 state (omega arith) whole)) ∙ eight-answers n 0 state (omega arith) whole k h)
+      ∙ dten-withPec (shown k 0 state) (omega (arith, length-shown n k 0 state h (omega arith) whole))
+      ∙ its-bit k h
+    where
+      its-bit : (k : ℕ) → k < n → dten (shown k 0 state) ≡ pin k state
+      its-bit k h = unfold shown in
+          dten-with (pin k state) (stored k 0 state) (good .sound .pins k h) (omega (arith, length-stored n k 0 state h (omega arith) (good .sound .whole)))
+
+-- THE STATEMENT
+pub pin-shows : PinShows
+pin-shows n j p frame state reply S hj lp r r′ after after′ came came′ s s′ = (
+  ap₂ heard same (s .word ∙ ap (λ (x : ℕ). chainWord x n frame) same ∙ sym (s′ .word)),
+  state-ext n after′ (withPin j p after) long′ (length-withPin n j p after hj long)
+      (λ k h lk lh. registers k h lk lh ∙ sym (stored-withPin n j p after hj long k h lh)) (λ k lk. pins k lk (eqb k j) refl),
+  answers-differ,
+  λ q. (shows n frame state reply r after came s q j hj, shows n frame next reply r′ after′ came′ s′ (ap (λ (x : ℕ). readsCfga x frame) (sym same) ∙ q) j hj ∙ pin-own n j p state hj (S .whole)),
+)
+  where
+    next : List ℕ
+    next = withPin j p state
+
+    S′ : Sound n next
+    S′ = other-sound n j p state S hj lp
+
+    kind : ℕ
+    kind = kindOf (codeOf frame)
+
+    g : ℕ
+    g = groupOf (codeOf frame)
+
+    hg : g < 18
+    hg = group-below (codeOf frame)
+
+    -- both are judged alike
+    number-alike : chainNumber n frame state (length reply) ≡ chainNumber n frame next (length reply)
+    number-alike = unfold chainNumber in simp (S .whole, S′ .whole, none-above n state (S .pins), none-above n next (S′ .pins))
+
+    same : r .number ≡ r′ .number
+    same = s .number ∙ number-alike ∙ sym (s′ .number)
+
+    good : eqb (r .number) 0 ≡ true → Accepted n frame state (length reply)
+    good e = accepted n frame state (length reply) (sym (s .number) ∙ eqb-true (r .number) 0 e)
+
+    -- the state that each leaves
+    after-is : (x y : List ℕ) → x ≡ chainState (r .number) n frame y → (b : Bool) → eqb (r .number) 0 ≡ b → x ≡ pick b (changed n kind g frame y) y
+    after-is x y e true q = e ∙ (unfold chainState pick in rw q)
+    after-is x y e false q = e ∙ (unfold chainState pick in rw q)
+
+    left′ : after′ ≡ chainState (r .number) n frame next
+    left′ = s′ .registers ∙ ap (λ (x : ℕ). chainState x n frame next) (sym same)
+
+    length-by : (x y : List ℕ) → length y ≡ stateLength n → x ≡ chainState (r .number) n frame y → (b : Bool) → eqb (r .number) 0 ≡ b → length x ≡ stateLength n
+    length-by x y whole e true q =
+        ap length (after-is x y e true q ∙ pick-true true _ _ refl) ∙ length-changed n kind g frame y hg (good q .long) (clear-room (codeOf frame)) whole
+    length-by x y whole e false q = ap length (after-is x y e false q ∙ pick-false false _ _ refl) ∙ whole
+
+    long : length after ≡ stateLength n
+    long = length-by after state (S .whole) (s .registers) (eqb (r .number) 0) refl
+
+    long′ : length after′ ≡ stateLength n
+    long′ = length-by after′ next (S′ .whole) left′ (eqb (r .number) 0) refl
+
+    registers : (k h : ℕ) → k < n → h < 18 → stored k h after′ ≡ stored k h after
+    registers k h lk lh = by-number (eqb (r .number) 0) refl
+      where
+        by-number : (b : Bool) → eqb (r .number) 0 ≡ b → stored k h after′ ≡ stored k h after
+        by-number true q =
+            ap (stored k h) (after-is after′ next left′ true q ∙ pick-true true _ _ refl)
+            ∙ changed-alike n kind g frame frame next state hg (good q .long) (good q .long) (clear-room (codeOf frame)) (S′ .whole) (S .whole) k lk refl
+            (λ i li. stored-withPin n j p state hj (S .whole) k i li) h lh
+            ∙ ap (stored k h) (sym (after-is after state (s .registers) true q ∙ pick-true true _ _ refl))
+        by-number false q =
+            ap (stored k h) (after-is after′ next left′ false q ∙ pick-false false _ _ refl)
+            ∙ stored-withPin n j p state hj (S .whole) k h lh
+            ∙ ap (stored k h) (sym (after-is after state (s .registers) false q ∙ pick-false false _ _ refl))
+
+    pins : (k : ℕ) → k < n → (b : Bool) → eqb k j ≡ b → pin k after′ ≡ pin k (withPin j p after)
+    pins k lk true e =
+        ap (λ (i : ℕ). pin i after′) (eqb-true k j e)
+        ∙ pins-stay n frame next reply r′ after′ came′ s′ j hj .0
+        ∙ pin-own n j p state hj (S .whole)
+        ∙ sym (pin-own n j p after hj long)
+        ∙ ap (λ (i : ℕ). pin i (withPin j p after)) (sym (eqb-true k j e))
+    pins k lk false e =
+        pins-stay n frame next reply r′ after′ came′ s′ k lk .0
+        ∙ pin-other n j p state hj (S .whole) k (eqb-false k j e)
+        ∙ sym (pins-stay n frame state reply r after came s k lk .0)
+        ∙ sym (pin-other n j p after hj long k (eqb-false k j e))
+
+    -- and what each answers
+    group : List ℕ
+    group = withPec (withDten 0 p (stored j 0 state))
+
+    replies : (b : Bool) → eqb (r .number) 0 ≡ b
+        → chainReply (r .number) n frame next reply
+        ≡ pick (b && (isRead kind && eqb g 0)) (splice (4 + 8 * j) group (chainReply (r .number) n frame state reply)) (chainReply (r .number) n frame state reply)
+    replies true q = unfold chainReply in
+        (pick-true (eqb (r .number) 0) _ _ q
+        ∙ reply-changed n j p state S hj lp kind g frame reply hg (isRead kind) refl (eqb g 0) refl
+        ∙ ap (λ (x : List ℕ). pick (isRead kind && eqb g 0) (splice (4 + 8 * j) group x) x) (sym (pick-true (eqb (r .number) 0) _ _ q)))
+    replies false q = unfold chainReply in (pick-false (eqb (r .number) 0) _ _ q ∙ sym (pick-false (eqb (r .number) 0) _ _ q) ∙ sym (pick-false false _ _ refl))
+
+    answers-differ : came′ ≡ pick (readsCfga (r .number) frame) (splice (4 + 8 * j) group came) came
+    answers-differ =
+        s′ .answered
+        ∙ ap (λ (x : ℕ). chainReply x n frame next reply) (sym same)
+        ∙ replies (eqb (r .number) 0) refl
+        ∙ (unfold readsCfga in ap (λ (x : List ℕ). pick (readsCfga (r .number) frame) (splice (4 + 8 * j) group x) x) (sym (s .answered)))
