@@ -77,7 +77,7 @@ fn hear(n: usize, frame: &[u8], state: &mut [u8], reply: &mut [u8]) -> Heard
         return Heard { number: 6, word: 0 };
     }
     let table = pec::table();
-    if !pec::is_right(&table, &frame[0..4]) {
+    if !pec::is_command_right(&table, &frame[0..4]) {
         return Heard { number: 4, word: 0 };
     }
     let high = frame[0] as u32;

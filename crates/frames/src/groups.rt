@@ -14,7 +14,7 @@ pub fn put_command(table: &[u16; 256], code: u32, part: &mut [u8])
     let high = (code / 256) as u8;
     let low = (code % 256) as u8;
     let command = [high, low];
-    let word = pec::pec_by(table, &command);
+    let word = pec::pec_of_two(table, &command);
     part[0] = high;
     part[1] = low;
     part[2] = (word / 256) as u8;
@@ -27,7 +27,7 @@ pub fn put_group(table: &[u16; 256], bytes: &[u8], part: &mut [u8])
     ensures { λ _. ⌜ now (part .exit) ≡ withPec (now (bytes .entry)) ⌝ }
 {
     lent::copy_six(bytes, part);
-    let word = pec::pec_by(table, bytes);
+    let word = pec::pec_of_six(table, bytes);
     part[6] = (word / 256) as u8;
     part[7] = (word % 256) as u8;
 }

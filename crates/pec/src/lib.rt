@@ -293,7 +293,7 @@ fn turn(table: &[u16; 256], r: u16, byte: u8) -> u16
 }
 
 // The check word of the six bytes of a data group. No loop: compilers leave one as it is.
-fn pec_of_six(table: &[u16; 256], bytes: &[u8]) -> u16
+pub fn pec_of_six(table: &[u16; 256], bytes: &[u8]) -> u16
     requires { ⌜ (now table ≡ remainders) × (length (now bytes) ≡ 6) ⌝ }
     ensures { λ r. ⌜ r ≡ pecOf (now (bytes .entry)) ⌝ }
 {
@@ -304,6 +304,16 @@ fn pec_of_six(table: &[u16; 256], bytes: &[u8]) -> u16
     let fifth = turn(table, fourth, bytes[4]);
     let sixth = turn(table, fifth, bytes[5]);
     sixth << 1
+}
+
+// That of the two bytes of a command, with no loop either.
+pub fn pec_of_two(table: &[u16; 256], bytes: &[u8]) -> u16
+    requires { ⌜ (now table ≡ remainders) × (length (now bytes) ≡ 2) ⌝ }
+    ensures { λ r. ⌜ r ≡ pecOf (now (bytes .entry)) ⌝ }
+{
+    let high = turn(table, 16, bytes[0]);
+    let low = turn(table, high, bytes[1]);
+    low << 1
 }
 
 // The check word of `bytes`, by a lent table.
@@ -348,4 +358,14 @@ pub fn is_right(table: &[u16; 256], group: &[u8]) -> bool
     ensures { λ r. ⌜ r ≡ right (now (group .entry)) ⌝ }
 {
     off_by(table, group) == 0
+}
+
+// The same of a command group.
+pub fn is_command_right(table: &[u16; 256], group: &[u8]) -> bool
+    requires { ⌜ (now table ≡ remainders) × (length (now group) ≡ 4) ⌝ }
+    ensures { λ r. ⌜ r ≡ right (now (group .entry)) ⌝ }
+{
+    let word = pec_of_two(table, &group[0..2]);
+    let sent = ((group[2] as u16) << 8) | (group[3] as u16);
+    sent ^ word == 0
 }

@@ -17,7 +17,7 @@ use Rattle.chain.proofs.hear.Tie as tie
 -- The places that a return looks back to, each from the next: `known` (the command is of the table), `checked` (its word is right), `four` (there are four
 -- bytes), `filled` (the reply shows silence), `start`.
 checked-right : (c : tie.Else2) → right (take 4 (c .before .before .before .before .before .before .before .before .before .before .before .before .before .args .frame .now)) ≡ true
-checked-right c = sym (c .before .is-right .ensures) ∙ not-false _ (c .if2 .left)
+checked-right c = sym (c .before .is-command-right .ensures) ∙ not-false _ (c .if2 .left)
 
 returns : tie.Need-returns
 unfolding fills
@@ -35,7 +35,7 @@ returns-2 c =
     let filled = four .before .before .before in
     let start = filled .before .before .before .before .before in
     let a = start .args in
-    let wrong = sym (c .before .is-right .ensures) ∙ not-true _ (c .if2 .taken) in
+    let wrong = sym (c .before .is-command-right .ensures) ∙ not-true _ (c .if2 .taken) in
     silent (a .n) (a .frame .now) (a .state .now) (a .reply .now) 4 _ refl refl (start .pre .2) (filled .fill .ensures)
     (number-4 _ _ _ _ (start .pre .0) (start .pre .1) (start .pre .2) (four .if1 .left) wrong)
 

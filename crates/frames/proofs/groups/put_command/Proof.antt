@@ -12,7 +12,7 @@ unfolding withPec twoBytes
 returns c =
     let start = c .before .before .before in
     let code = start .args .code in
-    let word = c .pec-by in
+    let word = c .pec-of-two in
     four-stored (start .args .part .now) (code / 256) (code % 256) (word .result / 256) (word .result % 256) (start .pre .2) ∙ rw (word .ensures)
 
 pub put-command-spec : {M : Type 1} → statement M

@@ -13,7 +13,7 @@ returns : tie.Need-returns
 returns c =
     let start = c .before .before .before .before .before .before .before in
     let copied = c .before .before .before .copy-six in
-    let word = c .pec-by in
+    let word = c .pec-of-six in
     group-put (start .args .bytes .now) (start .args .part .now) (copied .last .1 .0) (word .result) (start .pre .1) (start .pre .2) (copied .ensures) (word .ensures)
 
 pub put-group-spec : {M : Type 1} → statement M
