@@ -10,7 +10,7 @@ use lib.Dec.{eqb, ltb, leb}
 use lib.ListN.{getD, List·getD-map}
 use Rattle.lent.specs.Refusal.{pick}
 use Rattle.lent.proofs.Tests.{and-left, and-right, each-below}
-use Rattle.frames.specs.Conversions.{pattern, patterns, fields, patternAt, within, weighed, codeBy, fieldsBy, fits, seek, commandOf, isConversion}
+use Rattle.frames.specs.Conversions.{pattern, patterns, fields, patternAt, within, weighed, codeBy, choiceIn, fieldsBy, fits, seek, commandOf, isConversion}
 use Rattle.frames.specs.Packed.{packed, packedPatterns}
 use Rattle.frames.specs.declared.conversions.Pattern.{Pattern}
 use Rattle.frames.specs.declared.conversions.Fields.{Fields}
@@ -132,6 +132,22 @@ pub ready : (p : Pattern) (f : Fields) → Bounds p → within p f ≡ true → 
 ready p f b t =
     let i = inside p f t in
     (omega (arith, b .base), i .mode, omega (arith, b .dcp, i .discharge), omega (arith, b .pup, i .pullUp), omega (arith, b .most, i .choice))
+
+-- and fields that were read from a code have it
+pub read-ready : (p : Pattern) (f : Fields) (code : ℕ) → Bounds p → f ≡ fieldsBy p code
+    → (p .base < 2048) × (f .mode < 4) × (f .discharge < 2) × (f .«pull_up» < 2) × (f .choice < 8)
+unfolding fieldsBy choiceIn
+read-ready p f code b e = rw e (omega (arith, b .base), omega arith, one (p .dcp) (code / 0x10) (b .dcp), one (p .pup) (code / 0x40) (b .pup), chosen (eqb (p .sort) 2) (eqb (p .sort) 1))
+  where
+    one : (a x : ℕ) → a < 2 → a * (x % 2) < 2
+    one zero x h = omega arith
+    one (suc zero) x h = omega arith
+    one (suc (suc a)) x h = absurd (omega arith)
+
+    chosen : (s t : Bool) → pick s (code / 0x20 % 4) (pick t (code % 8) 0) < 8
+    chosen true t = unfold pick in omega arith
+    chosen false true = unfold pick in omega arith
+    chosen false false = unfold pick in omega arith
 
 -- a code is one of the command's, by its pattern and the fields in it
 pub fits-by : (command code : ℕ) (p : Pattern) (f : Fields) → p ≡ patternAt command → f ≡ fieldsBy p code → fits command code ≡ (within p f && eqb (codeBy p f) code)

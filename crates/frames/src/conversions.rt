@@ -139,8 +139,8 @@ fn has_code(rows: &[u32; 13], command: usize, code: u32) -> bool
 {
     let p = pattern_at(rows, command);
     let f = fields_by(p, code);
-    if are_within(p, f) {
-        return code_by(p, f) == code;
+    if code_by(p, f) == code {
+        return are_within(p, f);
     }
     false
 }
