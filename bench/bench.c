@@ -58,6 +58,7 @@ static struct {
     struct rig_conversion conversions[SETS];
     uint32_t codes[SETS];
     uint8_t write_frames[6][132], read_frames[6][132], write_cfga[6][132], read_cfga[6][132], replies[3][6][132];
+    uint8_t clear_frames[6][132], conversion_frames[6][132];
     uint8_t log[SETS * RIG_LOG_BYTES(132)];
     size_t log_len, places[SETS];
 } in;
@@ -91,32 +92,42 @@ static void turn_write(const struct maker *m, uint32_t n, size_t turns)
     }
 }
 
-static void obey_frames(const struct maker *m, uint32_t n, size_t turns, uint8_t frames[6][132])
+static void obey_frames(const struct maker *m, uint32_t n, size_t turns, uint8_t frames[6][132], size_t length)
 {
     for (size_t i = 0; i < turns; i++) {
-        struct rig_heard h = m->chain(n, frames[i % 6], 4 + 8 * n, work.state, RIG_STATE_BYTES(n), work.reply, sizeof work.reply);
+        struct rig_heard h = m->chain(n, frames[i % 6], length, work.state, RIG_STATE_BYTES(n), work.reply, sizeof work.reply);
         work.sum += h.number + h.word;
     }
 }
 
 static void turn_chain_write(const struct maker *m, uint32_t n, size_t turns)
 {
-    obey_frames(m, n, turns, in.write_frames);
+    obey_frames(m, n, turns, in.write_frames, RIG_FRAME_BYTES(n));
 }
 
 static void turn_chain_read(const struct maker *m, uint32_t n, size_t turns)
 {
-    obey_frames(m, n, turns, in.read_frames);
+    obey_frames(m, n, turns, in.read_frames, RIG_FRAME_BYTES(n));
 }
 
 static void turn_chain_write_cfga(const struct maker *m, uint32_t n, size_t turns)
 {
-    obey_frames(m, n, turns, in.write_cfga);
+    obey_frames(m, n, turns, in.write_cfga, RIG_FRAME_BYTES(n));
 }
 
 static void turn_chain_read_cfga(const struct maker *m, uint32_t n, size_t turns)
 {
-    obey_frames(m, n, turns, in.read_cfga);
+    obey_frames(m, n, turns, in.read_cfga, RIG_FRAME_BYTES(n));
+}
+
+static void turn_chain_clear(const struct maker *m, uint32_t n, size_t turns)
+{
+    obey_frames(m, n, turns, in.clear_frames, RIG_COMMAND_BYTES);
+}
+
+static void turn_chain_conversion(const struct maker *m, uint32_t n, size_t turns)
+{
+    obey_frames(m, n, turns, in.conversion_frames, RIG_COMMAND_BYTES);
 }
 
 static void read_replies(const struct maker *m, uint32_t n, size_t turns, uint8_t replies[6][132])
@@ -213,12 +224,14 @@ static const struct row {
     {"check word of 64 KiB", turn_pec, LONG_WORD, 1.1, 0},
     {"write, N = 1", turn_write, 1, 0, 0},
     {"write, N = 16", turn_write, 16, 1.1, 1.05},
-    {"chain write, N = 1", turn_chain_write, 1, 0, 0},
+    {"chain write, N = 1", turn_chain_write, 1, 1.1, 1.1},
     {"chain write, N = 16", turn_chain_write, 16, 1.1, 1.05},
     {"chain write of CFGA, N = 16", turn_chain_write_cfga, 16, 1.1, 1.05},
-    {"chain read, N = 1", turn_chain_read, 1, 0, 0},
+    {"chain read, N = 1", turn_chain_read, 1, 1.1, 1.1},
     {"chain read, N = 16", turn_chain_read, 16, 1.1, 1.05},
     {"chain read of CFGA, N = 16", turn_chain_read_cfga, 16, 1.1, 1.05},
+    {"chain clear, N = 16", turn_chain_clear, 16, 1.1, 1.05},
+    {"chain conversion, N = 16", turn_chain_conversion, 16, 1.1, 0},
     {"read, N = 1", turn_read, 1, 0, 0},
     {"read, N = 16, right", turn_read, 16, 1.1, 1.05},
     {"read, N = 16, wrong", turn_read_wrong, 16, 1.1, 1.05},
@@ -333,6 +346,8 @@ static void make_frames(uint32_t n)
         plain_write(n, reads[i], NULL, 0, in.read_frames[i], 132);
         plain_write(n, RIG_WRCFGA, in.bytes + 96 * i, 6 * n, in.write_cfga[i], 132);
         plain_write(n, RIG_RDCFGA, NULL, 0, in.read_cfga[i], 132);
+        plain_write(n, i % 2 == 0 ? RIG_CLRCELL : RIG_CLRAUX, NULL, 0, in.clear_frames[i], 132);
+        plain_write(n, in.codes[i], NULL, 0, in.conversion_frames[i], 132);
         plain_chain(n, in.read_frames[i], 4 + 8 * n, work.state, RIG_STATE_BYTES(n), in.replies[RIG_MARK_READ][i], 132);
         spoil(n, i);
         assert_marks(n, i);
