@@ -15,7 +15,7 @@ cast-sent : tie.Need-cast-sent
 cast-sent c = omega (arith, c .shared-slice-known2 .given 2)
 
 cast-sent-2 : tie.Need-cast-sent-2
-cast-sent-2 c = omega (arith, c .shared-slice-known3 .given 3)
+cast-sent-2 c = omega (arith, c .shared-slice-known3 .given 2, c .shared-slice-known3 .given 3)
 
 returns : tie.Need-returns
 unfolding right body
