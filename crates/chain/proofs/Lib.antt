@@ -9,5 +9,7 @@ pub mod Determined
 pub mod CodeLaws
 pub mod Accepted
 pub mod PinLaws
+pub mod WithPin
+pub mod ReplyGroups
 pub mod PinShown
 pub mod Alone

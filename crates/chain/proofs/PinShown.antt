@@ -2,119 +2,45 @@
 use mathlib.Core.Path.{_≡_, refl, sym, ap, ap₂, _∙_, subst}
 use mathlib.Core.Bool.{Bool, true, false, _&&_}
 use mathlib.Core.Logic.{⊎-elim}
-use mathlib.Core.List.{List, [], _∷_, _++_}
-use Prim.Native.Nat.{ℕ, zero, suc, _+_, _*_, _/_, _%_, _≤_, _<_}
+use mathlib.Core.List.{List, _++_}
+use Prim.Native.Nat.{ℕ, zero, suc, _+_, _*_, _≤_, _<_}
 use native.Mathlib.Nat.{eq-or-lt-of-le}
 use native.Mathlib.Omega.{arith}
 use borrow.Author.Tests.{eqb-true, eqb-false}
 use lib.Dec.{eqb}
-use lib.ListN.{length, getD, take, drop, length-append, length-drop, take-append-drop, List·getD-append}
-use lib.Seq.{drop-drop, drop-append-le, take-append-le, take-at}
+use lib.ListN.{length, take}
+use lib.Seq.{take-at}
 use Rattle.lent.specs.Memory.{over, splice}
 use Rattle.lent.specs.Refusal.{pick}
-use Rattle.lent.proofs.Parts.{pieces-ext}
 use Rattle.lent.proofs.Pick.{pick-true, pick-false}
-use Rattle.lent.proofs.Splice.{length-splice, splice-over, splice-same, splice-before, splice-after}
+use Rattle.lent.proofs.Splice.{length-splice, splice-over, splice-before}
 use Rattle.lent.proofs.Tests.{and-left, and-right, lt-or-le}
-use Rattle.pec.specs.Group.{twoBytes, withPec}
-use Rattle.pec.specs.Register.{pecOf}
+use Rattle.pec.specs.Group.{withPec}
 use Rattle.pec.proofs.Group.{length-withPec}
 use Rattle.frames.specs.Kind.{isRead}
 use Rattle.frames.specs.Commands.{kindOf, groupOf}
 use Rattle.frames.specs.Places.{eight}
 use Rattle.frames.proofs.Lookup.{group-below}
 use Rattle.chain.specs.Dten.{dten, withDten}
-use Rattle.chain.specs.State.{stateLength, spot, pinSpot, stored, pin, shown, Sound}
+use Rattle.chain.specs.State.{stateLength, stored, pin, shown, Sound}
 use Rattle.chain.specs.Effect.{silence, answers, answer, changed}
 use Rattle.chain.specs.Chain.{codeOf, chainNumber, chainWord, chainState, chainReply, Serves}
 use Rattle.chain.specs.Pins.{withPin, readsCfga, PinShows}
 use Rattle.chain.specs.declared.Heard.{Heard}
 use Rattle.chain.proofs.DtenLaws.{no-dten, dten-with, length-withDten}
-use Rattle.chain.proofs.StateLaws.{shown-alike, state-ext, length-stored, length-shown, none-above, pin-room, pin-apart, one-byte}
+use Rattle.chain.proofs.StateLaws.{shown-alike, state-ext, length-stored, length-shown, none-above}
 use Rattle.chain.proofs.ClearLaws.{clear-room, length-silence}
-use Rattle.chain.proofs.ReadLaws.{length-answers, eight-answers}
+use Rattle.chain.proofs.ReadLaws.{length-answered, eight-answers}
 use Rattle.chain.proofs.Obeyed.{length-changed, changed-alike}
 use Rattle.chain.proofs.Accepted.{Accepted, accepted}
 use Rattle.chain.proofs.PinLaws.{pins-stay}
+use Rattle.chain.proofs.WithPin.{length-withPin, pin-own, pin-other, stored-withPin}
+use Rattle.chain.proofs.ReplyGroups.{eight-ext, eight-over, eight-own, eight-before, eight-behind, dten-withPec}
 use Rattle.chain.proofs.Determined.{heard}
-
--- THE STATE WITH ANOTHER PIN
-pins-apart : (k j : ℕ) → k < j → pinSpot k + 1 ≤ pinSpot j
-unfolding pinSpot
-pins-apart k j h = omega arith
-
-module _ (n j p : ℕ) (state : List ℕ) (hj : j < n) (whole : length state ≡ stateLength n) where
-  one-fits : pinSpot j + 1 ≤ length state
-  one-fits = omega (arith, pin-room n j hj)
-
-  pub length-withPin : length (withPin j p state) ≡ stateLength n
-  unfolding withPin
-  length-withPin = length-splice (pinSpot j) (p ∷ []) state one-fits ∙ whole
-
-  pub pin-own : pin j (withPin j p state) ≡ p
-  unfolding withPin pin
-  pin-own = one-byte (splice (pinSpot j) (p ∷ []) state) (pinSpot j) ∙ ap (λ (x : List ℕ). getD x 0 0) (splice-same (pinSpot j) 1 (p ∷ []) state refl one-fits)
-
-  pub pin-other : (k : ℕ) → (k ≡ j → ⊥) → pin k (withPin j p state) ≡ pin k state
-  unfolding withPin pin
-  pin-other k ne =
-      one-byte (splice (pinSpot j) (p ∷ []) state) (pinSpot k)
-      ∙ ap (λ (x : List ℕ). getD x 0 0)
-      (⊎-elim
-      (λ a. splice-before (pinSpot k) 1 (pinSpot j) (p ∷ []) state (pins-apart k j a) (omega (arith, one-fits)))
-      (λ a. ⊎-elim (λ e. absurd (ne (sym e))) (λ b. splice-after (pinSpot k) 1 (pinSpot j) (p ∷ []) state (pins-apart j k b) one-fits) (eq-or-lt-of-le a))
-      (lt-or-le k j))
-      ∙ sym (one-byte state (pinSpot k))
-
-  pub stored-withPin : (k h : ℕ) → h < 18 → stored k h (withPin j p state) ≡ stored k h state
-  unfolding withPin stored
-  stored-withPin k h lh =
-      ⊎-elim
-      (λ a. splice-after (spot k h) 6 (pinSpot j) (p ∷ []) state a one-fits)
-      (λ a. splice-before (spot k h) 6 (pinSpot j) (p ∷ []) state (omega arith) (omega (arith, one-fits)))
-      (pin-apart j k h 1 (omega arith))
-
--- A REPLY, group by group
-eight-ext : (n : ℕ) (x y : List ℕ) → length x ≡ 4 + 8 * n → length y ≡ 4 + 8 * n → take 4 x ≡ take 4 y → ((k : ℕ) → k < n → eight k x ≡ eight k y) → x ≡ y
-unfolding eight
-eight-ext n x y lx ly four each =
-    sym (take-append-drop 4 x)
-    ∙ ap₂ (λ (a b : List ℕ). a ++ b) four
-    (pieces-ext 8 n (drop 4 x) (drop 4 y) (λ k h. ap (take 8) (drop-drop (8 * k) 4 x) ∙ each k h ∙ sym (ap (take 8) (drop-drop (8 * k) 4 y)))
-    (omega (arith, length-drop 4 x)) (omega (arith, length-drop 4 y)))
-    ∙ take-append-drop 4 y
-
-eight-over : (k : ℕ) (new old : List ℕ) → 4 + 8 * k + 8 ≤ length new → eight k (over new old) ≡ eight k new
-unfolding eight over
-eight-over k new old h =
-    ap (take 8) (drop-append-le (4 + 8 * k) new (drop (length new) old) (omega arith))
-    ∙ take-append-le 8 (drop (4 + 8 * k) new) (drop (length new) old) (omega (arith, length-drop (4 + 8 * k) new))
-
--- a group replaced: itself, and those before and behind it
-module _ (j k : ℕ) (piece reply : List ℕ) (long : length piece ≡ 8) (fits : 4 + 8 * j + 8 ≤ length reply) where
-  eight-own : eight j (splice (4 + 8 * j) piece reply) ≡ piece
-  unfolding eight
-  eight-own = splice-same (4 + 8 * j) 8 piece reply long fits
-
-  eight-before : k < j → eight k (splice (4 + 8 * j) piece reply) ≡ eight k reply
-  unfolding eight
-  eight-before h = splice-before (4 + 8 * k) 8 (4 + 8 * j) piece reply (omega arith) (omega arith)
-
-  eight-behind : j < k → eight k (splice (4 + 8 * j) piece reply) ≡ eight k reply
-  unfolding eight
-  eight-behind h = splice-after (4 + 8 * k) 8 (4 + 8 * j) piece reply (omega arith) (omega arith)
-
-dten-withPec : (xs : List ℕ) → 0 < length xs → dten (withPec xs) ≡ dten xs
-unfolding dten withPec
-dten-withPec xs h = ap (λ (x : ℕ). x / 2 % 2) (List·getD-append xs (twoBytes (pecOf xs)) 0 0 h)
 
 -- the reply to a read
 abbrev shownBy : ℕ → ℕ → List ℕ → List ℕ
 shownBy n g state = silence 4 ++ answers n g state
-
-length-shownBy : (n g : ℕ) (state : List ℕ) → g < 18 → length state ≡ stateLength n → length (shownBy n g state) ≡ 4 + 8 * n
-length-shownBy n g state hg whole =
-    length-append (silence 4) (answers n g state) ∙ omega (arith, length-silence 4, length-answers n g state hg whole n (omega arith))
 
 -- ANOTHER PIN of device j + 1
 module _ (n j p : ℕ) (state : List ℕ) (S : Sound n state) (hj : j < n) (lp : p ≤ 1) where
@@ -164,14 +90,14 @@ module _ (n j p : ℕ) (state : List ℕ) (S : Sound n state) (hj : j < n) (lp :
   -- the reply to a read of CFGA has that device's group anew, and every other as it was
   answers-cfga : shownBy n 0 other ≡ splice (4 + 8 * j) group (shownBy n 0 state)
   answers-cfga =
-      eight-ext n (shownBy n 0 other) (splice (4 + 8 * j) group old) (length-shownBy n 0 other (omega arith) other-whole)
+      eight-ext n (shownBy n 0 other) (splice (4 + 8 * j) group old) (length-answered n 0 other (omega arith) other-whole)
       (length-splice (4 + 8 * j) group old room ∙ long) four each
     where
       old : List ℕ
       old = shownBy n 0 state
 
       long : length old ≡ 4 + 8 * n
-      long = length-shownBy n 0 state (omega arith) (S .whole)
+      long = length-answered n 0 state (omega arith) (S .whole)
 
       room : 4 + 8 * j + length group ≤ length old
       room = omega (arith, long, group-long)
@@ -211,7 +137,7 @@ module _ (n j p : ℕ) (state : List ℕ) (S : Sound n state) (hj : j < n) (lp :
       (pick-true (isRead kind) _ _ e ∙ ap (λ (x : List ℕ). silence 4 ++ x) (answers-plain g hg (eqb-false g 0 q) n) ∙ sym (pick-true (isRead kind) _ _ e))
   reply-changed kind g frame reply hg true e true q = unfold pick in
       (ap (λ (x : List ℕ). over x reply) (pick-true (isRead kind) _ _ e ∙ ap (λ (i : ℕ). shownBy n i other) z ∙ answers-cfga)
-      ∙ sym (splice-over (4 + 8 * j) group (shownBy n 0 state) reply (omega (arith, length-shownBy n 0 state (omega arith) (S .whole), group-long)))
+      ∙ sym (splice-over (4 + 8 * j) group (shownBy n 0 state) reply (omega (arith, length-answered n 0 state (omega arith) (S .whole), group-long)))
       ∙ ap (λ (x : List ℕ). splice (4 + 8 * j) group (over x reply)) (sym (pick-true (isRead kind) _ _ e ∙ ap (λ (i : ℕ). shownBy n i state) z)))
     where
       z : g ≡ 0
@@ -246,7 +172,7 @@ module _ (n : ℕ) (frame state reply : List ℕ) (r : Heard) (after came : List
       let whole = good .sound .whole in
       ap (λ (x : List ℕ). dten (eight k x)) answered
       ∙ ap dten
-      (eight-over k (shownBy n 0 state) reply (omega (arith, length-shownBy n 0 state (omega arith) whole)) ∙ eight-answers n 0 state (omega arith) whole k h)
+      (eight-over k (shownBy n 0 state) reply (omega (arith, length-answered n 0 state (omega arith) whole)) ∙ eight-answers n 0 state (omega arith) whole k h)
       ∙ dten-withPec (shown k 0 state) (omega (arith, length-shown n k 0 state h (omega arith) whole))
       ∙ its-bit k h
     where

@@ -4,7 +4,7 @@ use mathlib.Core.List.{List, _++_}
 use Prim.Native.Nat.{ℕ, _+_, _*_, _-_, _≤_, _<_}
 use native.Mathlib.Numerals.{add-one}
 use native.Mathlib.Omega.{arith}
-use lib.ListN.{length, getD, take, drop, replicate, length-replicate, replicate-append-replicate}
+use lib.ListN.{length, getD, take, drop, replicate, length-append, length-replicate, replicate-append-replicate}
 use lib.Seq.{drop-drop, drop-at}
 use borrow.Rule.Slice.PartMut.{putMid}
 use Rattle.lent.specs.Memory.{over, splice}
@@ -42,6 +42,11 @@ module _ (n g : ℕ) (state : List ℕ) (hg : g < 18) (whole : length state ≡ 
       ∙ ap (λ (l : List ℕ). over (answers k g state ++ l) old) its-own
       ∙ rw add-one in
       (ap length laid ∙ length-over (answers (k + 1) g state) old (omega (arith, length-answers (k + 1) (omega arith))), laid)
+
+  -- the reply: four bytes of silence, then the answers
+  pub length-answered : length (silence 4 ++ answers n g state) ≡ 4 + 8 * n
+  unfolding silence
+  length-answered = length-append (replicate 4 255) (answers n g state) ∙ omega (arith, length-answers n (omega arith))
 
   -- device k + 1's group in the reply
   pub eight-answers : (k : ℕ) → k < n → eight k (silence 4 ++ answers n g state) ≡ withPec (shown k g state)

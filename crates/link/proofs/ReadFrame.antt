@@ -8,7 +8,7 @@ use Prim.Native.Nat.{ℕ, _+_, _*_, _≤_, _<_}
 use native.Mathlib.Omega.{arith}
 use borrow.Author.Tests.{eqb-true, eqb-false, eq-eqb, ne-eqb}
 use lib.Dec.{eqb}
-use lib.ListN.{length, take, drop, getD, replicate, length-append}
+use lib.ListN.{length, take, drop, getD, replicate}
 use Rattle.lent.specs.Bytes.{Bytes}
 use Rattle.lent.specs.Memory.{over}
 use Rattle.lent.specs.Refusal.{pick}
@@ -30,7 +30,7 @@ use Rattle.chain.specs.State.{shown, Sound}
 use Rattle.chain.specs.Effect.{silence, answers, answer, changed, report}
 use Rattle.chain.proofs.StateLaws.{length-shown, bytes-shown}
 use Rattle.chain.proofs.ClearLaws.{length-silence, part-silence}
-use Rattle.chain.proofs.ReadLaws.{length-answers, eight-answers}
+use Rattle.chain.proofs.ReadLaws.{length-answered, eight-answers}
 use Rattle.host.specs.Marks.{markOf, bytesOf}
 use Rattle.host.specs.Reader.{allBytes, allMarks, readerBytes, readerMarks}
 use Rattle.host.proofs.MarkLaws.{all-silent, mark-silent, bytes-read, bytes-none, read-if-right, right-if-read}
@@ -121,8 +121,7 @@ module _ (n : ℕ) (n1 : 1 ≤ n) (n16 : n ≤ 16) (s : Sending) (state : List �
   answer-read = rw q
 
   answered-long : length answered ≡ 4 + 8 * n
-  answered-long =
-      length-append (silence 4) (answers n (group s) state) ∙ omega (arith, length-silence 4, length-answers n (group s) state g18 (sound .whole) n (omega arith))
+  answered-long = length-answered n (group s) state g18 (sound .whole)
 
   returns-good : lost s ≡ false → returns ours n s state ≡ noisy (s .back) answered
   unfolding returns
