@@ -11,11 +11,12 @@ use Rattle.lent.specs.Bytes.{Bytes}
 use Rattle.lent.specs.Refusal.{pick}
 use Rattle.lent.proofs.Pick.{pick-false}
 use Rattle.chain.specs.Dten.{dten, withBit, withDten}
+use Rattle.chain.specs.Pins.{OneBit}
 
 -- ONE BYTE
-bit-of : (b x : ℕ) → b ≤ 1 → withBit b x / 2 % 2 ≡ b
+pub one-bit : OneBit
 unfolding withBit
-bit-of b x h = omega arith
+one-bit b x h = (omega arith, omega arith, omega arith)
 
 bit-again : (b c x : ℕ) → c ≤ 1 → withBit b (withBit c x) ≡ withBit b x
 unfolding withBit
@@ -99,4 +100,4 @@ dten-small xs = omega arith
 pub dten-with : (b : ℕ) (xs : List ℕ) → b ≤ 1 → 0 < length xs → dten (withDten 0 b xs) ≡ b
 unfolding dten withDten pick
 dten-with b [] h l = absurd (omega arith)
-dten-with b (x ∷ xs) h l = bit-of b x h
+dten-with b (x ∷ xs) h l = one-bit b x h .0

@@ -1,4 +1,4 @@
--- What the DTEN pins do: no frame changes one, nor the stored bit. Assumes nothing.
+-- No frame changes a pin, nor the DTEN that is stored; and every group but CFGA is as it was before there were pins. Assumes nothing.
 use mathlib.Core.Path.{_≡_, refl, sym, ap, _∙_, subst}
 use mathlib.Core.Bool.{Bool, true, false}
 use mathlib.Core.List.{List}
@@ -11,11 +11,10 @@ use Rattle.lent.proofs.Pick.{pick-true, pick-false}
 use Rattle.frames.specs.Commands.{kindOf, groupOf}
 use Rattle.frames.proofs.Lookup.{group-below}
 use Rattle.chain.specs.Dten.{dten}
-use Rattle.chain.specs.State.{stored, pin}
+use Rattle.chain.specs.State.{spot, stored, pin, shown, storing}
 use Rattle.chain.specs.Effect.{changed}
 use Rattle.chain.specs.Chain.{codeOf, chainState}
 use Rattle.chain.specs.Pins.{PinsStay, OthersPlain}
-use Rattle.chain.specs.State.{spot, shown, storing}
 use Rattle.chain.proofs.DtenLaws.{no-dten}
 use Rattle.chain.proofs.ClearLaws.{clear-room, clear-high}
 use Rattle.chain.proofs.Obeyed.{pin-changed, bit-changed}

@@ -1,23 +1,24 @@
 -- A pin changed between 0 and 1 changes its own byte, and of a read of CFGA that device's group: nothing else. Assumes nothing.
 use mathlib.Core.Path.{_≡_, refl, sym, ap, ap₂, _∙_, subst}
-use mathlib.Core.Bool.{Bool, true, false, _&&_}
+use mathlib.Core.Bool.{Bool, true, false, not, _&&_}
 use mathlib.Core.Logic.{⊎-elim}
-use mathlib.Core.List.{List, _++_}
+use mathlib.Core.List.{List, [], _∷_, _++_}
 use Prim.Native.Nat.{ℕ, zero, suc, _+_, _*_, _≤_, _<_}
 use native.Mathlib.Nat.{eq-or-lt-of-le}
 use native.Mathlib.Omega.{arith}
 use borrow.Author.Tests.{eqb-true, eqb-false}
-use lib.Dec.{eqb}
+use lib.Dec.{eqb, ltb}
 use lib.ListN.{length, take}
 use lib.Seq.{take-at}
 use Rattle.lent.specs.Memory.{over, splice}
-use Rattle.lent.specs.Refusal.{pick}
+use Rattle.lent.specs.Refusal.{pick, first}
 use Rattle.lent.proofs.Pick.{pick-true, pick-false}
 use Rattle.lent.proofs.Splice.{length-splice, splice-over, splice-before}
 use Rattle.lent.proofs.Tests.{and-left, and-right, lt-or-le}
-use Rattle.pec.specs.Group.{withPec}
-use Rattle.pec.proofs.Group.{length-withPec}
-use Rattle.frames.specs.Kind.{isRead}
+use Rattle.pec.specs.Group.{withPec, right}
+use Rattle.pec.proofs.Group.{length-withPec, take-withPec}
+use Rattle.frames.specs.Size.{outside}
+use Rattle.frames.specs.Kind.{isRead, isUnknown, frameLength}
 use Rattle.frames.specs.Commands.{kindOf, groupOf}
 use Rattle.frames.specs.Places.{eight}
 use Rattle.frames.proofs.Lookup.{group-below}
@@ -27,14 +28,13 @@ use Rattle.chain.specs.Effect.{silence, answers, answer, changed}
 use Rattle.chain.specs.Chain.{codeOf, chainNumber, chainWord, chainState, chainReply, Serves}
 use Rattle.chain.specs.Pins.{withPin, readsCfga, PinShows}
 use Rattle.chain.specs.declared.Heard.{Heard}
-use Rattle.chain.proofs.DtenLaws.{no-dten, dten-with, length-withDten}
-use Rattle.chain.proofs.StateLaws.{shown-alike, state-ext, length-stored, length-shown, none-above}
+use Rattle.chain.proofs.DtenLaws.{no-dten, dten-with, dten-again, length-withDten}
+use Rattle.chain.proofs.StateLaws.{shown-alike, state-ext, length-stored, length-shown}
 use Rattle.chain.proofs.ClearLaws.{clear-room, length-silence}
 use Rattle.chain.proofs.ReadLaws.{length-answered, eight-answers}
-use Rattle.chain.proofs.Obeyed.{length-changed, changed-alike}
+use Rattle.chain.proofs.Obeyed.{length-changed, pin-changed, changed-alike}
 use Rattle.chain.proofs.Accepted.{Accepted, accepted}
-use Rattle.chain.proofs.PinLaws.{pins-stay}
-use Rattle.chain.proofs.WithPin.{length-withPin, pin-own, pin-other, stored-withPin}
+use Rattle.chain.proofs.WithPin.{length-withPin, pin-own, pin-other, stored-withPin, judged-alike}
 use Rattle.chain.proofs.ReplyGroups.{eight-ext, eight-over, eight-own, eight-before, eight-behind, dten-withPec}
 use Rattle.chain.proofs.Determined.{heard}
 
@@ -51,27 +51,27 @@ module _ (n j p : ℕ) (state : List ℕ) (S : Sound n state) (hj : j < n) (lp :
   group = withPec (withDten 0 p (stored j 0 state))
 
   other-whole : length other ≡ stateLength n
-  other-whole = length-withPin n j p state hj (S .whole)
+  other-whole = length-withPin j p state ∙ S .whole
 
   other-sound : Sound n other
   other-sound = record { whole = other-whole; pins = λ k h. by-device k h (eqb k j) refl }
     where
       by-device : (k : ℕ) → k < n → (b : Bool) → eqb k j ≡ b → pin k other ≤ 1
-      by-device k h true e = omega (arith, ap (λ (i : ℕ). pin i other) (eqb-true k j e), pin-own n j p state hj (S .whole))
-      by-device k h false e = omega (arith, pin-other n j p state hj (S .whole) k (eqb-false k j e), S .pins k h)
+      by-device k h true e = omega (arith, ap (λ (i : ℕ). pin i other) (eqb-true k j e), pin-own j p state n hj (S .whole))
+      by-device k h false e = omega (arith, pin-other j p state k (eqb-false k j e), S .pins k h)
 
   -- what is shown of CFGA, and of every other group
   shown-own : shown j 0 other ≡ withDten 0 p (stored j 0 state)
   unfolding shown
-  shown-own = ap₂ (withDten 0) (pin-own n j p state hj (S .whole)) (stored-withPin n j p state hj (S .whole) j 0 (omega arith))
+  shown-own = ap₂ (withDten 0) (pin-own j p state n hj (S .whole)) (stored-withPin j p state j 0 (omega arith))
 
   shown-else : (k : ℕ) → (k ≡ j → ⊥) → shown k 0 other ≡ shown k 0 state
-  shown-else k ne = shown-alike k 0 other state (stored-withPin n j p state hj (S .whole) k 0 (omega arith)) (pin-other n j p state hj (S .whole) k ne)
+  shown-else k ne = shown-alike k 0 other state (stored-withPin j p state k 0 (omega arith)) (pin-other j p state k ne)
 
   shown-plain : (k g : ℕ) → g < 18 → (g ≡ 0 → ⊥) → shown k g other ≡ shown k g state
   unfolding shown
   shown-plain k g hg ne =
-      no-dten g (pin k other) (stored k g other) ne ∙ stored-withPin n j p state hj (S .whole) k g hg ∙ sym (no-dten g (pin k state) (stored k g state) ne)
+      no-dten g (pin k other) (stored k g other) ne ∙ stored-withPin j p state k g hg ∙ sym (no-dten g (pin k state) (stored k g state) ne)
 
   answers-plain : (g : ℕ) → g < 18 → (g ≡ 0 → ⊥) → (k : ℕ) → answers k g other ≡ answers k g state
   unfolding answers
@@ -180,21 +180,72 @@ module _ (n : ℕ) (frame state reply : List ℕ) (r : Heard) (after came : List
       its-bit k h = unfold shown in
           dten-with (pin k state) (stored k 0 state) (good .sound .pins k h) (omega (arith, length-stored n k 0 state h (omega arith) (good .sound .whole)))
 
+  -- it shows what is stored but for DTEN, so that to put DTEN into either is the same
+  same-group : (p k : ℕ) → k < n → withDten 0 p (take 6 (eight k came)) ≡ withDten 0 p (stored k 0 state)
+  same-group p k h =
+      let whole = good .sound .whole in
+      let again : withDten 0 p (shown k 0 state) ≡ withDten 0 p (stored k 0 state) = unfold shown in dten-again 0 p (pin k state) (stored k 0 state) (good .sound .pins k h) in
+      ap (λ (x : List ℕ). withDten 0 p (take 6 (eight k x))) answered
+      ∙ ap (λ (x : List ℕ). withDten 0 p (take 6 x))
+      (eight-over k (shownBy n 0 state) reply (omega (arith, length-answered n 0 state (omega arith) whole)) ∙ eight-answers n 0 state (omega arith) whole k h)
+      ∙ ap (withDten 0 p) (take-withPec (shown k 0 state) 6 (length-shown n k 0 state h (omega arith) whole))
+      ∙ again
+
+-- A FRAME THAT WAS OBEYED, on both states
+module _ (n j p : ℕ) (frame state reply : List ℕ) (S : Sound n state) (hj : j < n) (lp : p ≤ 1) (A : Accepted n frame state (length reply)) where
+  abbrev kind′ : ℕ
+  kind′ = kindOf (codeOf frame)
+
+  abbrev g′ : ℕ
+  g′ = groupOf (codeOf frame)
+
+  abbrev next : List ℕ
+  next = withPin j p state
+
+  whole′ : length next ≡ stateLength n
+  whole′ = length-withPin j p state ∙ S .whole
+
+  long : (x : List ℕ) → length x ≡ stateLength n → length (changed n kind′ g′ frame x) ≡ stateLength n
+  long x whole = length-changed n kind′ g′ frame x (group-below (codeOf frame)) (A .long) (clear-room (codeOf frame)) whole
+
+  pin-kept : (x : List ℕ) → length x ≡ stateLength n → (k : ℕ) → pin k (changed n kind′ g′ frame x) ≡ pin k x
+  pin-kept x whole = pin-changed n kind′ g′ frame x (group-below (codeOf frame)) (A .long) (clear-room (codeOf frame)) whole
+
+  -- the pin is all that differs in what they leave
+  left-alike : changed n kind′ g′ frame next ≡ withPin j p (changed n kind′ g′ frame state)
+  left-alike =
+      state-ext n (changed n kind′ g′ frame next) (withPin j p after) (long next whole′) (length-withPin j p after ∙ long state (S .whole))
+      (λ k h lk lh. changed-alike n kind′ g′ frame frame next state (group-below (codeOf frame)) (A .long) (A .long) (clear-room (codeOf frame)) whole′ (S .whole) k lk refl
+      (λ i li. stored-withPin j p state k i li) h lh ∙ sym (stored-withPin j p after k h lh))
+      (λ k lk. pins k (eqb k j) refl)
+    where
+      after : List ℕ
+      after = changed n kind′ g′ frame state
+
+      pins : (k : ℕ) → (b : Bool) → eqb k j ≡ b → pin k (changed n kind′ g′ frame next) ≡ pin k (withPin j p after)
+      pins k true e =
+          pin-kept next whole′ k
+          ∙ ap (λ (i : ℕ). pin i next) (eqb-true k j e)
+          ∙ pin-own j p state n hj (S .whole)
+          ∙ sym (ap (λ (i : ℕ). pin i (withPin j p after)) (eqb-true k j e) ∙ pin-own j p after n hj (long state (S .whole)))
+      pins k false e =
+          pin-kept next whole′ k ∙ pin-other j p state k (eqb-false k j e) ∙ sym (pin-other j p after k (eqb-false k j e) ∙ pin-kept state (S .whole) k)
+
 -- THE STATEMENT
 pub pin-shows : PinShows
-pin-shows n j p frame state reply S hj lp r r′ after after′ came came′ s s′ = (
+pin-shows n j p frame state reply hj old lp r r′ after after′ came came′ s s′ = (
   ap₂ heard same (s .word ∙ ap (λ (x : ℕ). chainWord x n frame) same ∙ sym (s′ .word)),
-  state-ext n after′ (withPin j p after) long′ (length-withPin n j p after hj long)
-      (λ k h lk lh. registers k h lk lh ∙ sym (stored-withPin n j p after hj long k h lh)) (λ k lk. pins k lk (eqb k j) refl),
-  answers-differ,
-  λ q. (shows n frame state reply r after came s q j hj, shows n frame next reply r′ after′ came′ s′ (ap (λ (x : ℕ). readsCfga x frame) (sym same) ∙ q) j hj ∙ pin-own n j p state hj (S .whole)),
+  registers (eqb (r .number) 0) refl,
+  answers-differ ∙ from-the-reply (readsCfga (r .number) frame) refl,
+  λ q. (
+    shows n frame state reply r after came s q j hj,
+    shows n frame next reply r′ after′ came′ s′ (ap (λ (x : ℕ). readsCfga x frame) (sym same) ∙ q) j hj
+        ∙ pin-own j p state n hj (obeyed-by-it q .sound .whole),
+  ),
 )
   where
     next : List ℕ
     next = withPin j p state
-
-    S′ : Sound n next
-    S′ = other-sound n j p state S hj lp
 
     kind : ℕ
     kind = kindOf (codeOf frame)
@@ -202,64 +253,47 @@ pin-shows n j p frame state reply S hj lp r r′ after after′ came came′ s s
     g : ℕ
     g = groupOf (codeOf frame)
 
-    hg : g < 18
-    hg = group-below (codeOf frame)
-
     -- both are judged alike
-    number-alike : chainNumber n frame state (length reply) ≡ chainNumber n frame next (length reply)
-    number-alike = unfold chainNumber in simp (S .whole, S′ .whole, none-above n state (S .pins), none-above n next (S′ .pins))
+    judged : Bool → ℕ
+    judged bad =
+        first
+        ((outside n, 1)
+        ∷ (bad, 3)
+        ∷ (ltb (length reply) (length frame), 5)
+        ∷ (ltb (length frame) 4, 6)
+        ∷ (not (right (take 4 frame)), 4)
+        ∷ (isUnknown kind, 2)
+        ∷ (not (eqb (length frame) (frameLength n kind)), 6)
+        ∷ [])
+
+    number-alike : chainNumber n frame next (length reply) ≡ chainNumber n frame state (length reply)
+    number-alike = unfold chainNumber in ap judged (judged-alike j p state old lp n hj)
 
     same : r .number ≡ r′ .number
-    same = s .number ∙ number-alike ∙ sym (s′ .number)
+    same = s .number ∙ sym number-alike ∙ sym (s′ .number)
 
-    good : eqb (r .number) 0 ≡ true → Accepted n frame state (length reply)
-    good e = accepted n frame state (length reply) (sym (s .number) ∙ eqb-true (r .number) 0 e)
+    accepts : eqb (r .number) 0 ≡ true → Accepted n frame state (length reply)
+    accepts e = accepted n frame state (length reply) (sym (s .number) ∙ eqb-true (r .number) 0 e)
 
-    -- the state that each leaves
-    after-is : (x y : List ℕ) → x ≡ chainState (r .number) n frame y → (b : Bool) → eqb (r .number) 0 ≡ b → x ≡ pick b (changed n kind g frame y) y
-    after-is x y e true q = e ∙ (unfold chainState pick in rw q)
-    after-is x y e false q = e ∙ (unfold chainState pick in rw q)
+    obeyed-by-it : readsCfga (r .number) frame ≡ true → Accepted n frame state (length reply)
+    obeyed-by-it q = good n frame state reply r after came s q
+
+    left : after ≡ chainState (r .number) n frame state
+    left = s .registers
 
     left′ : after′ ≡ chainState (r .number) n frame next
     left′ = s′ .registers ∙ ap (λ (x : ℕ). chainState x n frame next) (sym same)
 
-    length-by : (x y : List ℕ) → length y ≡ stateLength n → x ≡ chainState (r .number) n frame y → (b : Bool) → eqb (r .number) 0 ≡ b → length x ≡ stateLength n
-    length-by x y whole e true q =
-        ap length (after-is x y e true q ∙ pick-true true _ _ refl) ∙ length-changed n kind g frame y hg (good q .long) (clear-room (codeOf frame)) whole
-    length-by x y whole e false q = ap length (after-is x y e false q ∙ pick-false false _ _ refl) ∙ whole
-
-    long : length after ≡ stateLength n
-    long = length-by after state (S .whole) (s .registers) (eqb (r .number) 0) refl
-
-    long′ : length after′ ≡ stateLength n
-    long′ = length-by after′ next (S′ .whole) left′ (eqb (r .number) 0) refl
-
-    registers : (k h : ℕ) → k < n → h < 18 → stored k h after′ ≡ stored k h after
-    registers k h lk lh = by-number (eqb (r .number) 0) refl
-      where
-        by-number : (b : Bool) → eqb (r .number) 0 ≡ b → stored k h after′ ≡ stored k h after
-        by-number true q =
-            ap (stored k h) (after-is after′ next left′ true q ∙ pick-true true _ _ refl)
-            ∙ changed-alike n kind g frame frame next state hg (good q .long) (good q .long) (clear-room (codeOf frame)) (S′ .whole) (S .whole) k lk refl
-            (λ i li. stored-withPin n j p state hj (S .whole) k i li) h lh
-            ∙ ap (stored k h) (sym (after-is after state (s .registers) true q ∙ pick-true true _ _ refl))
-        by-number false q =
-            ap (stored k h) (after-is after′ next left′ false q ∙ pick-false false _ _ refl)
-            ∙ stored-withPin n j p state hj (S .whole) k h lh
-            ∙ ap (stored k h) (sym (after-is after state (s .registers) false q ∙ pick-false false _ _ refl))
-
-    pins : (k : ℕ) → k < n → (b : Bool) → eqb k j ≡ b → pin k after′ ≡ pin k (withPin j p after)
-    pins k lk true e =
-        ap (λ (i : ℕ). pin i after′) (eqb-true k j e)
-        ∙ pins-stay n frame next reply r′ after′ came′ s′ j hj .0
-        ∙ pin-own n j p state hj (S .whole)
-        ∙ sym (pin-own n j p after hj long)
-        ∙ ap (λ (i : ℕ). pin i (withPin j p after)) (sym (eqb-true k j e))
-    pins k lk false e =
-        pins-stay n frame next reply r′ after′ came′ s′ k lk .0
-        ∙ pin-other n j p state hj (S .whole) k (eqb-false k j e)
-        ∙ sym (pins-stay n frame state reply r after came s k lk .0)
-        ∙ sym (pin-other n j p after hj long k (eqb-false k j e))
+    registers : (b : Bool) → eqb (r .number) 0 ≡ b → after′ ≡ withPin j p after
+    registers true e =
+        let A = accepts e in
+        let is : after ≡ changed n kind g frame state = left ∙ (unfold chainState in pick-true (eqb (r .number) 0) _ state e) in
+        let is′ : after′ ≡ changed n kind g frame next = left′ ∙ (unfold chainState in pick-true (eqb (r .number) 0) _ next e) in
+        is′ ∙ left-alike n j p frame state reply (A .sound) hj lp A ∙ ap (withPin j p) (sym is)
+    registers false e =
+        let is : after ≡ state = left ∙ (unfold chainState in pick-false (eqb (r .number) 0) _ state e) in
+        let is′ : after′ ≡ next = left′ ∙ (unfold chainState in pick-false (eqb (r .number) 0) _ next e) in
+        is′ ∙ ap (withPin j p) (sym is)
 
     -- and what each answers
     group : List ℕ
@@ -270,7 +304,7 @@ pin-shows n j p frame state reply S hj lp r r′ after after′ came came′ s s
         ≡ pick (b && (isRead kind && eqb g 0)) (splice (4 + 8 * j) group (chainReply (r .number) n frame state reply)) (chainReply (r .number) n frame state reply)
     replies true q = unfold chainReply in
         (pick-true (eqb (r .number) 0) _ _ q
-        ∙ reply-changed n j p state S hj lp kind g frame reply hg (isRead kind) refl (eqb g 0) refl
+        ∙ reply-changed n j p state (accepts q .sound) hj lp kind g frame reply (group-below (codeOf frame)) (isRead kind) refl (eqb g 0) refl
         ∙ ap (λ (x : List ℕ). pick (isRead kind && eqb g 0) (splice (4 + 8 * j) group x) x) (sym (pick-true (eqb (r .number) 0) _ _ q)))
     replies false q = unfold chainReply in (pick-false (eqb (r .number) 0) _ _ q ∙ sym (pick-false (eqb (r .number) 0) _ _ q) ∙ sym (pick-false false _ _ refl))
 
@@ -280,3 +314,8 @@ pin-shows n j p frame state reply S hj lp r r′ after after′ came came′ s s
         ∙ ap (λ (x : ℕ). chainReply x n frame next reply) (sym same)
         ∙ replies (eqb (r .number) 0) refl
         ∙ (unfold readsCfga in ap (λ (x : List ℕ). pick (readsCfga (r .number) frame) (splice (4 + 8 * j) group x) x) (sym (s .answered)))
+
+    from-the-reply : (b : Bool) → readsCfga (r .number) frame ≡ b
+        → pick b (splice (4 + 8 * j) group came) came ≡ pick b (splice (4 + 8 * j) (withPec (withDten 0 p (take 6 (eight j came)))) came) came
+    from-the-reply true q = unfold pick in ap (λ (x : List ℕ). splice (4 + 8 * j) (withPec x) came) (sym (same-group n frame state reply r after came s q p j hj))
+    from-the-reply false q = unfold pick in refl

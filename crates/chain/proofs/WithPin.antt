@@ -1,49 +1,67 @@
--- The state with the pin of one device changed: that pin alone is another, and every group is as it was. Assumes nothing.
-use mathlib.Core.Path.{_≡_, refl, sym, ap, _∙_}
+-- The state with the pin of one device changed: that pin alone is another, every group is as it was, and the state is judged as it was. Assumes nothing.
+use mathlib.Core.Path.{_≡_, refl, sym, ap, ap₂, _∙_}
+use mathlib.Core.Bool.{Bool, true, false, not, _||_}
 use mathlib.Core.Logic.{⊎-elim}
-use mathlib.Core.List.{List, [], _∷_}
-use Prim.Native.Nat.{ℕ, _+_, _≤_, _<_}
-use native.Mathlib.Nat.{eq-or-lt-of-le}
+use mathlib.Core.List.{List}
+use Prim.Native.Nat.{ℕ, zero, suc, _+_, _-_, _≤_, _<_}
 use native.Mathlib.Omega.{arith}
-use lib.ListN.{length, getD}
-use Rattle.lent.specs.Memory.{splice}
-use Rattle.lent.proofs.Splice.{length-splice, splice-same, splice-before, splice-after}
-use Rattle.lent.proofs.Tests.{lt-or-le}
-use Rattle.chain.specs.State.{stateLength, spot, pinSpot, stored, pin}
+use borrow.Author.Tests.{eqb-true, eqb-false, le-ltb}
+use lib.Dec.{eqb, ltb}
+use lib.ListN.{length, take, drop, set, length-set}
+use lib.Seq.{getD-set-same, getD-set-other, take-set-le, drop-set-lt, drop-set-add}
+use Rattle.chain.specs.State.{stateLength, spot, pinSpot, stored, pin, pinAbove}
 use Rattle.chain.specs.Pins.{withPin}
-use Rattle.chain.proofs.StateLaws.{pin-room, pin-apart, one-byte}
+use Rattle.chain.proofs.StateLaws.{pin-room, pin-apart}
 
-pins-apart : (k j : ℕ) → k < j → pinSpot k + 1 ≤ pinSpot j
+places-differ : (k j : ℕ) → (k ≡ j → ⊥) → pinSpot k ≡ pinSpot j → ⊥
 unfolding pinSpot
-pins-apart k j h = omega arith
+places-differ k j ne e = ne (omega arith)
 
-module _ (n j p : ℕ) (state : List ℕ) (hj : j < n) (whole : length state ≡ stateLength n) where
-  one-fits : pinSpot j + 1 ≤ length state
-  one-fits = omega (arith, pin-room n j hj)
-
-  pub length-withPin : length (withPin j p state) ≡ stateLength n
+module _ (j p : ℕ) (state : List ℕ) where
+  pub length-withPin : length (withPin j p state) ≡ length state
   unfolding withPin
-  length-withPin = length-splice (pinSpot j) (p ∷ []) state one-fits ∙ whole
+  length-withPin = simp length-set
 
-  pub pin-own : pin j (withPin j p state) ≡ p
+  pub pin-own : (n : ℕ) → j < n → length state ≡ stateLength n → pin j (withPin j p state) ≡ p
   unfolding withPin pin
-  pin-own = one-byte (splice (pinSpot j) (p ∷ []) state) (pinSpot j) ∙ ap (λ (x : List ℕ). getD x 0 0) (splice-same (pinSpot j) 1 (p ∷ []) state refl one-fits)
+  pin-own n h whole = getD-set-same state (pinSpot j) p 0 (omega (arith, pin-room n j h))
 
   pub pin-other : (k : ℕ) → (k ≡ j → ⊥) → pin k (withPin j p state) ≡ pin k state
   unfolding withPin pin
-  pin-other k ne =
-      one-byte (splice (pinSpot j) (p ∷ []) state) (pinSpot k)
-      ∙ ap (λ (x : List ℕ). getD x 0 0)
-      (⊎-elim
-      (λ a. splice-before (pinSpot k) 1 (pinSpot j) (p ∷ []) state (pins-apart k j a) (omega (arith, one-fits)))
-      (λ a. ⊎-elim (λ e. absurd (ne (sym e))) (λ b. splice-after (pinSpot k) 1 (pinSpot j) (p ∷ []) state (pins-apart j k b) one-fits) (eq-or-lt-of-le a))
-      (lt-or-le k j))
-      ∙ sym (one-byte state (pinSpot k))
+  pin-other k ne = getD-set-other state (pinSpot j) (pinSpot k) p 0 (places-differ k j ne)
 
   pub stored-withPin : (k h : ℕ) → h < 18 → stored k h (withPin j p state) ≡ stored k h state
   unfolding withPin stored
   stored-withPin k h lh =
       ⊎-elim
-      (λ a. splice-after (spot k h) 6 (pinSpot j) (p ∷ []) state a one-fits)
-      (λ a. splice-before (spot k h) 6 (pinSpot j) (p ∷ []) state (omega arith) (omega (arith, one-fits)))
+      (λ a. ap (take 6) (drop-set-lt (spot k h) state (pinSpot j) p (omega arith)))
+      (λ a.
+      let past : spot k h + (pinSpot j - spot k h) ≡ pinSpot j = omega arith in
+      ap (λ (i : ℕ). take 6 (drop (spot k h) (set state i p))) (sym past)
+      ∙ ap (take 6) (drop-set-add (spot k h) state (pinSpot j - spot k h) p)
+      ∙ take-set-le 6 (drop (spot k h) state) (pinSpot j - spot k h) p (omega arith))
       (pin-apart j k h 1 (omega arith))
+
+  module _ (old : pin j state ≤ 1) (new : p ≤ 1) (n : ℕ) (hj : j < n) where
+    above-alike : length state ≡ stateLength n → (k : ℕ) → pinAbove k (withPin j p state) ≡ pinAbove k state
+    unfolding pinAbove
+    above-alike whole zero = refl
+    above-alike whole (suc k) = ap₂ (λ (a b : Bool). a || b) (above-alike whole k) (by-device (eqb k j) refl)
+      where
+        by-device : (b : Bool) → eqb k j ≡ b → ltb 1 (pin k (withPin j p state)) ≡ ltb 1 (pin k state)
+        by-device true e =
+            let q : k ≡ j = eqb-true k j e in
+            ap (λ (i : ℕ). ltb 1 (pin i (withPin j p state))) q
+            ∙ le-ltb 1 (pin j (withPin j p state)) (omega (arith, pin-own n hj whole))
+            ∙ sym (ap (λ (i : ℕ). ltb 1 (pin i state)) q ∙ le-ltb 1 (pin j state) old)
+        by-device false e = ap (ltb 1) (pin-other k (eqb-false k j e))
+
+    -- whether it is refused with 3
+    pub judged-alike : (not (eqb (length (withPin j p state)) (stateLength n)) || pinAbove n (withPin j p state))
+        ≡ (not (eqb (length state) (stateLength n)) || pinAbove n state)
+    judged-alike =
+        ap (λ (l : ℕ). not (eqb l (stateLength n)) || pinAbove n (withPin j p state)) length-withPin ∙ by-length (eqb (length state) (stateLength n)) refl
+      where
+        by-length : (b : Bool) → eqb (length state) (stateLength n) ≡ b → (not b || pinAbove n (withPin j p state)) ≡ (not b || pinAbove n state)
+        by-length true e = above-alike (eqb-true (length state) (stateLength n) e) n
+        by-length false e = refl

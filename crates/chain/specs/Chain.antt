@@ -19,7 +19,7 @@ use Rattle.chain.specs.declared.Heard.{Heard}
 unfoldable pub codeOf : List ℕ → ℕ
 codeOf frame = getD frame 0 0 * 256 + getD frame 1 0
 
--- The number: the first that applies (01, "Numbers a call can come back with", Chain).
+-- The number: the first that applies (01, "Numbers a call can come back with", Chain; 3 as 02, K5, has it).
 unfoldable pub chainNumber : ℕ → List ℕ → List ℕ → ℕ → ℕ
 chainNumber n frame state replyLen =
     first

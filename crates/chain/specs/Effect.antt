@@ -21,7 +21,7 @@ unfoldable pub answers : ℕ → ℕ → List ℕ → List ℕ
 answers zero g state = []
 answers (suc k) g state = answers k g state ++ withPec (shown k g state)
 
--- A write: devices 1 to k, each by its own group alone. Right PEC, it stores the six bytes; wrong PEC, it keeps what it had.
+-- A write: devices 1 to k, each by its own group alone. Right PEC, it stores the six bytes, of CFGA all bits but DTEN; wrong PEC, it keeps what it had.
 unfoldable pub written : ℕ → ℕ → ℕ → List ℕ → List ℕ → List ℕ
 written n zero g frame state = state
 written n (suc k) g frame state =

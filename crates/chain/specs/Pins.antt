@@ -1,20 +1,25 @@
--- What the DTEN pins do (02, K5), of the chain's statement alone, so for any frame and all that is lent. Device k of 01 has the index k - 1 here. Assumes
--- nothing.
-use Prim.Native.Nat.{ℕ, _+_, _*_, _≤_, _<_}
+-- What the DTEN pins do (02, K5): what follows of the chain's statement, for any frame and all that is lent, and of what is shown and stored. Device k of 01 has
+-- the index k - 1 here. Assumes nothing.
+use Prim.Native.Nat.{ℕ, _+_, _*_, _/_, _%_, _≤_, _<_}
 use mathlib.Core.Path.{_≡_}
 use mathlib.Core.Bool.{Bool, true, _&&_}
-use mathlib.Core.List.{List, [], _∷_}
+use mathlib.Core.List.{List}
 use lib.Dec.{eqb}
+use lib.ListN.{set, take}
 use Rattle.lent.specs.Memory.{splice}
 use Rattle.lent.specs.Refusal.{pick}
 use Rattle.pec.specs.Group.{withPec}
 use Rattle.frames.specs.Kind.{isRead}
 use Rattle.frames.specs.Commands.{kindOf, groupOf}
 use Rattle.frames.specs.Places.{eight}
-use Rattle.chain.specs.Dten.{dten, withDten}
-use Rattle.chain.specs.State.{spot, pinSpot, stored, pin, shown, storing, Sound}
+use Rattle.chain.specs.Dten.{dten, withBit, withDten}
+use Rattle.chain.specs.State.{spot, pinSpot, stored, pin, shown, storing}
 use Rattle.chain.specs.Chain.{codeOf, Serves}
 use Rattle.chain.specs.declared.Heard.{Heard}
+
+-- Bit 1 is put to b, and "the other 47 bits" are left: bits 7 to 2 and bit 0 of the first byte, and every other byte.
+abbrev pub OneBit : Type 0
+OneBit = (b x : ℕ) → b ≤ 1 → (withBit b x / 2 % 2 ≡ b) × (withBit b x / 4 ≡ x / 4) × (withBit b x % 2 ≡ x % 2)
 
 -- "The stored bit and the pin stay": no frame changes them, obeyed or refused.
 abbrev pub PinsStay : Type 0
@@ -28,17 +33,18 @@ readsCfga number frame = eqb number 0 && (isRead (kindOf (codeOf frame)) && eqb 
 
 -- the state with the pin of device j + 1 put to p
 unfoldable pub withPin : ℕ → ℕ → List ℕ → List ℕ
-withPin j p state = splice (pinSpot j) (p ∷ []) state
+withPin j p state = set state (pinSpot j) p
 
--- A pin of a sound state changed between 0 and 1 changes its own byte, and of a read of CFGA that device's group: DTEN, which shows the pin, and with it the
--- check word. Number, word, every other byte of the state and every other byte of every reply are as they were.
+-- A pin changed between 0 and 1 changes its own byte, and of a read of CFGA that device's group: DTEN, which shows the pin, and with it the check word. Number,
+-- word, every other byte of the state and every other byte of every reply are as they were.
 abbrev pub PinShows : Type 0
 PinShows =
-    (n j p : ℕ) (frame state reply : List ℕ) → Sound n state → j < n → p ≤ 1
-    → (r r′ : Heard) (after after′ answer answer′ : List ℕ) → Serves n frame state reply r after answer → Serves n frame (withPin j p state) reply r′ after′ answer′
+    (n j p : ℕ) (frame state reply : List ℕ) → j < n → pin j state ≤ 1 → p ≤ 1
+    → (r r′ : Heard) (after after′ answer answer′ : List ℕ)
+    → Serves n frame state reply r after answer → Serves n frame (withPin j p state) reply r′ after′ answer′
     → (r ≡ r′)
     × (after′ ≡ withPin j p after)
-    × (answer′ ≡ pick (readsCfga (r .number) frame) (splice (4 + 8 * j) (withPec (withDten 0 p (stored j 0 state))) answer) answer)
+    × (answer′ ≡ pick (readsCfga (r .number) frame) (splice (4 + 8 * j) (withPec (withDten 0 p (take 6 (eight j answer)))) answer) answer)
     × (readsCfga (r .number) frame ≡ true → (dten (eight j answer) ≡ pin j state) × (dten (eight j answer′) ≡ p))
 
 -- Every other group reads as it is stored, and stores what is written, as it was before K5.

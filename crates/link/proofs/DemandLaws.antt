@@ -133,7 +133,7 @@ module _ (n : ℕ) (a : 1 ≤ n) (b : n ≤ 16) (state : List ℕ) (are : Bytes 
     number = O .number ∙ pick-false (lost s) 4 0 good;
     size = O .size;
     pins = O .pins;
-    bits = O .bits;
+    dten-stays = O .dten-stays;
     write = λ w. (stores w, O .write w .others, word-full w);
     clear = λ c. (sets c, O .clear c .word ∙ pick-false (lost s) 0 (2 ^ n - 1) good);
     conversion = λ c. (O .conversion c .unchanged, O .conversion c .word ∙ pick-false (lost s) 0 (2 ^ n - 1) good);

@@ -91,8 +91,8 @@ module _ (n : ℕ) (n1 : 1 ≤ n) (n16 : n ≤ 16) (s : Sending) (state : List �
       Arrival.holds n n1 n16 s state F sound (λ (r : List ℕ). pin k r ≡ pin k state) refl
       (pin-changed n (kind s) (group s) (arrives ours n s) state g18 long (clear-room (s .code)) (sound .whole) k)
 
-  bits : (k : ℕ) → k < n → dten (stored k 0 (step ours n s state .registers)) ≡ dten (stored k 0 state)
-  bits k h =
+  dten-stays : (k : ℕ) → k < n → dten (stored k 0 (step ours n s state .registers)) ≡ dten (stored k 0 state)
+  dten-stays k h =
       Arrival.holds n n1 n16 s state F sound (λ (r : List ℕ). dten (stored k 0 r) ≡ dten (stored k 0 state)) refl
       (bit-changed n (kind s) (group s) (arrives ours n s) state g18 long (clear-room (s .code)) (sound .whole) (clear-high (s .code)) k h)
 
@@ -115,7 +115,7 @@ module _ (n : ℕ) (n1 : 1 ≤ n) (n16 : n ≤ 16) (s : Sending) (state : List �
     size = size;
     are-bytes = are-bytes;
     pins = pins;
-    bits = bits;
+    dten-stays = dten-stays;
     kinds = kinds;
     write = λ w. writes n n1 n16 s state F sound w;
     read = λ q. reads n n1 n16 s state F are sound q;

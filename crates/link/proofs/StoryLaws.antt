@@ -86,7 +86,7 @@ module _ (R : Rig) (d : Demand3 R) (n : ℕ) (a : 1 ≤ n) (b : n ≤ 16) where
             rest .2 k h lk lh
             ∙ ap (λ (p : ℕ). holds n k h p ss (shown k h next)) (O .pins k lk)
             ∙ ap (holds n k h (pin k state) ss) (taken R n s state (step R n s state) O k h lk lh)),
-        λ k lk. (rest .3 k lk .0 ∙ O .pins k lk, rest .3 k lk .1 ∙ O .bits k lk),
+        λ k lk. (rest .3 k lk .0 ∙ O .pins k lk, rest .3 k lk .1 ∙ O .dten-stays k lk),
       )
 
 pub story : (R : Rig) → Demand3 R → Story R
@@ -111,7 +111,7 @@ module _ (R R′ : Rig) (n : ℕ) (s : Sending) (before : List ℕ) (r r′ : Se
   same-registers sound =
       state-ext n (r .registers) (r′ .registers) (O .size) (O′ .size)
       (λ k h lk lh. stored-alike k h (r .registers) (r′ .registers) (omega (arith, O .pins k lk, sound .pins k lk)) (omega (arith, O′ .pins k lk, sound .pins k lk))
-      (taken R n s before r O k h lk lh ∙ sym (taken R′ n s before r′ O′ k h lk lh)) (O .bits k lk ∙ sym (O′ .bits k lk)))
+      (taken R n s before r O k h lk lh ∙ sym (taken R′ n s before r′ O′ k h lk lh)) (O .dten-stays k lk ∙ sym (O′ .dten-stays k lk)))
       (λ k lk. O .pins k lk ∙ sym (O′ .pins k lk))
 
   pub same-word : r .word ≡ r′ .word

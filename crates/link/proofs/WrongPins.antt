@@ -79,7 +79,7 @@ echoing-fails d =
 pub taking-fails : Demand3 taking → ⊥
 unfolding stored spot dten
 taking-fails d =
-    let e : _≡_ {A = ℕ} 1 0 = sym (go-wrong .1) ∙ one taking d 1 (omega arith) (omega arith) set-bits set-bits-fair .bits 0 (omega arith) in omega arith
+    let e : _≡_ {A = ℕ} 1 0 = sym (go-wrong .1) ∙ one taking d 1 (omega arith) (omega arith) set-bits set-bits-fair .dten-stays 0 (omega arith) in omega arith
 
 pub pulling-fails : Demand3 pulling → ⊥
 unfolding pin pinSpot

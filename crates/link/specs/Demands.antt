@@ -62,8 +62,9 @@ pub record Undisturbed (n : ℕ) (s : Sending) (before : List ℕ) (r : Seen) : 
   pub made : r .made ≡ 0
   pub number : r .number ≡ 0
   pub size : length (r .registers) ≡ stateLength n
+  -- no frame changes a pin, nor the DTEN that is stored
   pub pins : (k : ℕ) → k < n → pin k (r .registers) ≡ pin k before
-  pub bits : (k : ℕ) → k < n → dten (stored k 0 (r .registers)) ≡ dten (stored k 0 before)
+  pub dten-stays : (k : ℕ) → k < n → dten (stored k 0 (r .registers)) ≡ dten (stored k 0 before)
   -- a write: every device has its bytes, no other group changes, and the word says so
   pub write : kind s ≡ 1
       → (held n (group s) (r .registers) ≡ readBack n (group s) before (s .bytes))

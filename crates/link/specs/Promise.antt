@@ -28,7 +28,7 @@ missed n s k = lost s || hit (wire n k (s .forth))
 unfoldable pub unread : Sending → ℕ → Bool
 unread s k = lost s || hit (eight k (s .back))
 
--- A WRITE. "A device takes new bytes exactly when neither the command group nor its own group was hit"; of CFGA they are as read through its pin (02, K5).
+-- A WRITE. "A device takes new bytes exactly when neither the command group nor its own group was hit": of CFGA all but DTEN, which reads as the pin (02, K5).
 -- Every other group of every device stays; bit k of the word is set exactly when device k + 1 took its bytes, and no other bit.
 pub record Writes (n : ℕ) (s : Sending) (before : List ℕ) (r : Seen) : Type 0 where
   pub own : (k : ℕ) → k < n
@@ -72,7 +72,7 @@ pub record Obeys (R : Rig) (n : ℕ) (s : Sending) (before : List ℕ) (r : Seen
   pub size : length (r .registers) ≡ stateLength n
   pub are-bytes : Bytes (r .registers)
   pub pins : (k : ℕ) → k < n → pin k (r .registers) ≡ pin k before
-  pub bits : (k : ℕ) → k < n → dten (stored k 0 (r .registers)) ≡ dten (stored k 0 before)
+  pub dten-stays : (k : ℕ) → k < n → dten (stored k 0 (r .registers)) ≡ dten (stored k 0 before)
   pub kinds : (kind s ≡ 1) ⊎ ((kind s ≡ 2) ⊎ ((kind s ≡ 3) ⊎ (kind s ≡ 4)))
   pub write : kind s ≡ 1 → Writes n s before r
   pub read : kind s ≡ 2 → Reads n s before r

@@ -32,7 +32,7 @@ abbrev pub left : Rig → ℕ → List ℕ → List Sending → List ℕ
 left R n registers [] = registers
 left R n registers (s ∷ ss) = left R n (after R n s registers) ss
 
--- After any run each device holds that, every pin and every stored DTEN is what it was, and a read that misses no device hands just that out.
+-- After any run each device holds that, every pin and every stored DTEN is what it was, and a read hands just that out of each device that it does not miss.
 abbrev pub Story : Rig → Type 0
 Story R =
     (n : ℕ) → 1 ≤ n → n ≤ 16 → (state : List ℕ) → Bytes state → Sound n state → (ss : List Sending) → AllFair n ss
