@@ -296,8 +296,11 @@ static void one_pin_change(uint32_t n, uint32_t k, const struct command *command
     size_t length = plain_frame(n, command, data, frame);
     make_state(low, n, 0x15555 & ~(1u << (k - 1)), 0x06666);
     make_state(high, n, 0x15555 | 1u << (k - 1), 0x06666);
-    rig_chain(n, frame, length, low, RIG_STATE_BYTES(n), low_reply, sizeof low_reply);
-    rig_chain(n, frame, length, high, RIG_STATE_BYTES(n), high_reply, sizeof high_reply);
+    memset(low_reply, 0xAA, sizeof low_reply);
+    memset(high_reply, 0xAA, sizeof high_reply);
+    struct rig_heard at_low = rig_chain(n, frame, length, low, RIG_STATE_BYTES(n), low_reply, sizeof low_reply);
+    struct rig_heard at_high = rig_chain(n, frame, length, high, RIG_STATE_BYTES(n), high_reply, sizeof high_reply);
+    EXPECT(at_low.number == 0 && at_high.number == 0 && at_low.word == at_high.word, "number and word", command->code, k);
     if (command->code == RIG_RDCFGA) {
         const uint8_t *low_group = low_reply + 4 + 8 * (k - 1);
         EXPECT(plain_mark(group) == RIG_MARK_READ && plain_mark(low_group) == RIG_MARK_READ, "both check words are right", n, k);
@@ -305,7 +308,7 @@ static void one_pin_change(uint32_t n, uint32_t k, const struct command *command
         group[0] ^= 2;
         memcpy(group + 6, low_group + 6, 2);
     }
-    EXPECT(memcmp(low_reply, high_reply, length) == 0, "the rest of the reply", command->code, k);
+    EXPECT(memcmp(low_reply, high_reply, sizeof low_reply) == 0, "the rest of the reply", command->code, k);
     EXPECT(low[RIG_PIN_PLACE(k)] == 0 && high[RIG_PIN_PLACE(k)] == 1, "the pin itself", command->code, k);
     high[RIG_PIN_PLACE(k)] = 0;
     EXPECT(memcmp(low, high, RIG_STATE_BYTES(n)) == 0, "the rest of the state", command->code, k);

@@ -181,6 +181,7 @@ fn of_a_wrong_group_no_bit_is_stored() {
         let heard = serve(2, &frame, &mut state, &mut [0; 20]);
         assert_eq!(heard, Heard { number: 0, word: 1 });
         assert_eq!(state[6..], before[6..]);
+        assert_eq!(state[0], 0x5A & !BIT_1 | before[0] & BIT_1);
         assert_eq!(state[1..6], [0x5A; 5]);
     }
 }
@@ -197,20 +198,23 @@ fn a_pin_above_1_is_refused_before_the_reply_and_the_frame_are_looked_at() {
             vec![0x07, 0x11, 0xC9],
             vec![0x07, 0x11, 0xC9, 0xC1],
             vec![0x00, 0x17, 0x4A, 0x88],
-        ];
+        ]
+        .into_iter()
+        .zip([0, 0, 0, 0, 6, 4, 2]);
         for (k, pin) in (1..=n as usize).flat_map(|k| (0..=255).map(move |pin| (k, pin))) {
             let mut before = state_of(n);
             before[pin_at(k)] = pin;
-            for frame in &frames {
-                for room in [frame.len() + 1, frame.len() - 1, 0] {
-                    holds_to_the_pin(n, frame, &before, room, pin);
-                }
+            for (frame, number) in frames.clone() {
+                holds_to_the_pin(n, &frame, &before, (frame.len() + 1, number), pin);
+                holds_to_the_pin(n, &frame, &before, (frame.len() - 1, 5), pin);
+                holds_to_the_pin(n, &frame, &before, (0, 5), pin);
             }
         }
     }
 }
 
-fn holds_to_the_pin(n: u32, frame: &[u8], before: &[u8], room: usize, pin: u8) {
+/// With a pin of 0 or 1 the frame comes to its own number.
+fn holds_to_the_pin(n: u32, frame: &[u8], before: &[u8], (room, number): (usize, u8), pin: u8) {
     let (mut state, mut reply) = (before.to_vec(), vec![0xAA; room]);
     let heard = serve(n, frame, &mut state, &mut reply);
     if pin > 1 {
@@ -218,7 +222,7 @@ fn holds_to_the_pin(n: u32, frame: &[u8], before: &[u8], room: usize, pin: u8) {
         assert_eq!(state, before);
         assert_eq!(reply, vec![0xAA; room]);
     } else {
-        assert_ne!(heard.number, 3);
+        assert_eq!(heard.number, number);
     }
 }
 
@@ -289,16 +293,16 @@ fn every_other_group_reads_back_as_it_was_written() {
 fn a_pin_is_seen_in_one_bit_of_its_own_cfga_and_nowhere_else() {
     for (n, command) in (1..=16u32).flat_map(|n| commands().map(move |command| (n, command))) {
         for (frame, k) in frames_of(n, &command)
-            .iter()
-            .flat_map(|frame| (1..=n as usize).map(move |k| (frame, k)))
+            .into_iter()
+            .flat_map(and_damaged)
+            .flat_map(|frame| (1..=n as usize).map(move |k| (frame.clone(), k)))
         {
             let (mut low, mut high) = (state_of(n), state_of(n));
             (low[pin_at(k)], high[pin_at(k)]) = (0, 1);
             let (mut at_low, mut at_high) = (vec![0xAA; frame.len()], vec![0xAA; frame.len()]);
-            let heard = serve(n, frame, &mut low, &mut at_low);
-            assert_eq!(heard, serve(n, frame, &mut high, &mut at_high));
-            assert_eq!(heard.number, 0);
-            if u32::from(command.code) == RDCFGA {
+            let heard = serve(n, &frame, &mut low, &mut at_low);
+            assert_eq!(heard, serve(n, &frame, &mut high, &mut at_high));
+            if heard.number == 0 && u32::from(command.code) == RDCFGA {
                 differs_in_its_group(k, &mut at_low, &mut at_high);
             }
             assert_eq!(at_low, at_high);
