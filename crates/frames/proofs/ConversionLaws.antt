@@ -154,6 +154,39 @@ pub fits-by : (command code : ℕ) (p : Pattern) (f : Fields) → p ≡ patternA
 unfolding fits
 fits-by command code p f e g = rw (g, e)
 
+-- the first four commands have codes below 0x400, so that from there on the search may begin behind them
+low-code : (c : ℕ) (f : Fields) → c < 4 → Inside (patternAt c) f → codeBy (patternAt c) f < 0x400
+unfolding patternAt patterns codeBy weighed pick
+low-code zero f h i = omega (arith, i .mode, i .discharge, i .pullUp, i .choice)
+low-code (suc zero) f h i = omega (arith, i .mode, i .discharge, i .pullUp, i .choice)
+low-code (suc (suc zero)) f h i = omega (arith, i .mode, i .discharge, i .pullUp, i .choice)
+low-code (suc (suc (suc zero))) f h i = omega (arith, i .mode, i .discharge, i .pullUp, i .choice)
+low-code (suc (suc (suc (suc c)))) f h i = absurd (omega arith)
+
+low-missed : (c code : ℕ) → c < 4 → 0x400 ≤ code → fits c code ≡ false
+low-missed c code h l = go (fits c code) refl
+  where
+    p : Pattern
+    p = patternAt c
+
+    f : Fields
+    f = fieldsBy p code
+
+    go : (b : Bool) → fits c code ≡ b → b ≡ false
+    go false e = refl
+    go true e =
+        let t : (within p f && eqb (codeBy p f) code) ≡ true = sym (fits-by c code p f refl refl) ∙ e in
+        let built = eqb-true (codeBy p f) code (and-right (within p f) (eqb (codeBy p f) code) t) in
+        absurd (omega (arith, low-code c f h (inside p f (and-left (within p f) (eqb (codeBy p f) code) t))))
+
+pub from-fourth : (code : ℕ) → 0x400 ≤ code → commandOf code ≡ seek code 4 9
+unfolding commandOf
+from-fourth code l =
+    seek-on code 0 12 (low-missed 0 code (omega arith) l)
+    ∙ seek-on code 1 11 (low-missed 1 code (omega arith) l)
+    ∙ seek-on code 2 10 (low-missed 2 code (omega arith) l)
+    ∙ seek-on code 3 9 (low-missed 3 code (omega arith) l)
+
 pub found-here : (code c : ℕ) → c < 13 → fits c code ≡ true → seek code c (13 - c) ≡ c
 found-here code c h e = let k : 13 - c ≡ suc (12 - c) = omega arith in rw k (seek-here code c (12 - c) e)
 

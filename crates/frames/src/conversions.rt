@@ -1,7 +1,7 @@
 // The conversion commands of document 002: a code built from command and fields, and a code taken apart.
 ghost use mathlib.Core.Path.{_≡_};
-ghost use Prim.Native.Nat.{_<_};
-ghost use Rattle.frames.specs.Conversions.{patternAt, within, weighed, codeBy, choiceIn, fieldsBy, fits, commandOf, Builds, TakesApart};
+ghost use Prim.Native.Nat.{_<_, _-_, _≤_};
+ghost use Rattle.frames.specs.Conversions.{patternAt, within, weighed, codeBy, choiceIn, fieldsBy, fits, seek, commandOf, Builds, TakesApart};
 ghost use Rattle.frames.specs.Packed.{packedPatterns};
 
 // Row by row of 002's Table 36, by hex digits: three of the code with every field 0; the most of DCP; the most of PUP; the sort of the choice, its least and
@@ -145,12 +145,19 @@ fn has_code(rows: &[u32; 13], command: usize, code: u32) -> bool
     false
 }
 
+// Where the search for a code begins: the first four commands have codes below 0x400.
+fn first_row(code: u32) -> usize
+    ensures { λ r. ⌜ (r ≤ 13) × (commandOf code ≡ seek code r (13 - r)) ⌝ }
+{
+    if code < 0x400 { 0 } else { 4 }
+}
+
 // The command of a code, and 13 where no command has it.
 fn command_of(rows: &[u32; 13], code: u32) -> usize
     requires { ⌜ now rows ≡ packedPatterns ⌝ }
     ensures { λ r. ⌜ r ≡ commandOf code ⌝ }
 {
-    let mut command = 0;
+    let mut command = first_row(code);
     while command < 13 {
         if has_code(rows, command, code) {
             return command;
