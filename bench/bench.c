@@ -233,7 +233,7 @@ static const struct row {
     {"chain read of CFGA, N = 1", turn_chain_read_cfga, 1, 0, 0},
     {"chain read of CFGA, N = 16", turn_chain_read_cfga, 16, 1.1, 1.05},
     {"chain clear, N = 1", turn_chain_clear, 1, 0, 0},
-    {"chain clear, N = 16", turn_chain_clear, 16, 1.1, 1.05},
+    {"chain clear, N = 16", turn_chain_clear, 16, 1.1, 0},
     {"chain conversion, N = 1", turn_chain_conversion, 1, 0, 0},
     {"chain conversion, N = 16", turn_chain_conversion, 16, 1.1, 0},
     {"read, N = 1", turn_read, 1, 0, 0},
