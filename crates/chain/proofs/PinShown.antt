@@ -1,24 +1,23 @@
 -- A pin changed between 0 and 1 changes its own byte, and of a read of CFGA that device's group: nothing else. Assumes nothing.
 use mathlib.Core.Path.{_≡_, refl, sym, ap, ap₂, _∙_, subst}
-use mathlib.Core.Bool.{Bool, true, false, not, _&&_}
+use mathlib.Core.Bool.{Bool, true, false, _&&_}
 use mathlib.Core.Logic.{⊎-elim}
-use mathlib.Core.List.{List, [], _∷_, _++_}
+use mathlib.Core.List.{List, _++_}
 use Prim.Native.Nat.{ℕ, zero, suc, _+_, _*_, _≤_, _<_}
 use native.Mathlib.Nat.{eq-or-lt-of-le}
 use native.Mathlib.Omega.{arith}
 use borrow.Author.Tests.{eqb-true, eqb-false}
-use lib.Dec.{eqb, ltb}
+use lib.Dec.{eqb}
 use lib.ListN.{length, take}
 use lib.Seq.{take-at}
 use Rattle.lent.specs.Memory.{over, splice}
-use Rattle.lent.specs.Refusal.{pick, first}
+use Rattle.lent.specs.Refusal.{pick}
 use Rattle.lent.proofs.Pick.{pick-true, pick-false}
 use Rattle.lent.proofs.Splice.{length-splice, splice-over, splice-before}
 use Rattle.lent.proofs.Tests.{and-left, and-right, lt-or-le}
-use Rattle.pec.specs.Group.{withPec, right}
+use Rattle.pec.specs.Group.{withPec}
 use Rattle.pec.proofs.Group.{length-withPec, take-withPec}
-use Rattle.frames.specs.Size.{outside}
-use Rattle.frames.specs.Kind.{isRead, isUnknown, frameLength}
+use Rattle.frames.specs.Kind.{isRead}
 use Rattle.frames.specs.Commands.{kindOf, groupOf}
 use Rattle.frames.specs.Places.{eight}
 use Rattle.frames.proofs.Lookup.{group-below}
@@ -254,20 +253,8 @@ pin-shows n j p frame state reply hj old lp r r′ after after′ came came′ s
     g = groupOf (codeOf frame)
 
     -- both are judged alike
-    judged : Bool → ℕ
-    judged bad =
-        first
-        ((outside n, 1)
-        ∷ (bad, 3)
-        ∷ (ltb (length reply) (length frame), 5)
-        ∷ (ltb (length frame) 4, 6)
-        ∷ (not (right (take 4 frame)), 4)
-        ∷ (isUnknown kind, 2)
-        ∷ (not (eqb (length frame) (frameLength n kind)), 6)
-        ∷ [])
-
     number-alike : chainNumber n frame next (length reply) ≡ chainNumber n frame state (length reply)
-    number-alike = unfold chainNumber in ap judged (judged-alike j p state old lp n hj)
+    number-alike = unfold chainNumber in rw (judged-alike j p state old lp n hj)
 
     same : r .number ≡ r′ .number
     same = s .number ∙ sym number-alike ∙ sym (s′ .number)
