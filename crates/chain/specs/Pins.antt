@@ -17,7 +17,7 @@ use Rattle.chain.specs.State.{spot, pinSpot, stored, pin, shown, storing
 use Rattle.chain.specs.Chain.{codeOf, Serves}
 use Rattle.chain.specs.declared.Heard.{Heard}
 
--- Bit 1 is put to b, and "the other 47 bits" are left: bits 7 to 2 and bit 0 of the first byte, and every other byte.
+-- Bit 1 of a byte is put to b, and its other bits are left, 7 to 2 and 0. (The other five bytes of CFGA are not concerned: that makes "the other 47 bits".)
 abbrev pub OneBit : Type 0
 OneBit = (b x : ℕ) → b ≤ 1 → (withBit b x / 2 % 2 ≡ b) × (withBit b x / 4 ≡ x / 4) × (withBit b x % 2 ≡ x % 2)
 
