@@ -4,16 +4,20 @@
 # make lib       build/librig.a, the C entries of include/rig.h, from the proved crates
 # make dist      build/dist/rig.c and rig.h, the same entries as C99 for any processor, printed from the proved code
 # make test-arm  the C tests of rig.c on 32-bit Arm, and its size and stack on a Cortex-M4; make test-powerpc on a big-endian processor
+# make test-x86-64  the C tests of the toolchain's archive and of rig.c on x86-64, on a machine of another kind (there make test runs it)
 # make install   header, archive and rig.pc for pkg-config under PREFIX (default /usr/local)
 # make bench     how long the entries take beside plain C and beside second/ (ARGS=cells: the rows with that in their name)
 # make fuzz      inputs to the C entries as long as one likes (FUZZ=-runs=N: N of them)
 # make fmt       lay out every Rattle, proof and Rust file
-.PHONY: run showlog test test-arm test-powerpc lib dist install bench fuzz fmt need second header against printed sanitized manual readme ctest example showlogs entries fuzz_some dist_alone FORCE
+.PHONY: run showlog test test-arm test-powerpc test-x86-64 lib dist install bench fuzz fmt need second header against printed sanitized manual readme ctest example showlogs entries fuzz_some dist_alone FORCE
 
 PREFIX ?= /usr/local
 VERSION := 3.0.0
 CHECKED := -Wall -Wextra -Wpedantic -Werror -Iinclude
 ARCHIVE := build/librig.a
+# What the toolchain compiles, which is for x86-64 only. On a machine of another kind librig.a is rig.c, compiled there.
+X86_64 := build/x86-64/librig.a
+ON_X86_64 := $(filter x86_64,$(shell uname -m))
 SECOND := build/bench/release/libsecond_c.a
 C99 := gcc -std=c99 -O2 $(CHECKED)
 SOURCES := crates.txt $(shell find $(addprefix crates/,lent pec frames chain host wirelog capi) -name '*.rt' -o -name '*.antt')
@@ -47,7 +51,7 @@ build/controller: $(CONTROLLER) $(wildcard examples/*.h) include/rig.h $(ARCHIVE
 build/showlog: $(SHOWLOG) examples/names.h include/rig.h $(ARCHIVE)
 	@$(C99) $(filter %.c,$^) $(ARCHIVE) -o $@
 
-test: need second header against printed sanitized dist_alone
+test: need second header $(if $(ON_X86_64),,test-x86-64) against printed sanitized dist_alone
 	@echo '== rt ci: prove every crate, try every must-fail edit, run every program'
 	@rt ci
 
@@ -56,12 +60,15 @@ need:
 
 lib: $(ARCHIVE)
 
-$(ARCHIVE): $(SOURCES) | need
-	@echo '== lib: prove what the archive holds, and compile it'
-	@mkdir -p build
+$(ARCHIVE): $(if $(ON_X86_64),$(X86_64),build/c/gcc-O2/librig.a)
+	@cp $< $@
+	@echo '== lib: $@ and include/rig.h are ready$(if $(ON_X86_64),,: rig.c as gcc -O2 compiles it for this machine)'
+
+$(X86_64): $(SOURCES) | need
+	@echo '== archive: prove what it holds, and compile it for x86-64'
+	@mkdir -p $(@D)
 	@bash -o pipefail -c 'rt staticlib capi 2>&1 | tee build/lib.log | grep --line-buffered "^rt:"' || { tail -40 build/lib.log; exit 1; }
 	@cp target/staticlib/libcapi.a $@
-	@echo '== lib: $@ and include/rig.h are ready'
 
 # The proved MIR as C99. Every function that is printed, and every type, is held to the MIR of its proved crate.
 $(RIG_C): $(SOURCES) include/rig.h tools/mir2c tools/declared.py $(wildcard tools/printer/*.py) build/revision | need
@@ -102,11 +109,11 @@ install:
 	install -m 644 build/rig.pc '$(DESTDIR)$(PREFIX)/lib/pkgconfig/rig.pc'
 
 # The header compiles alone, as C and as C++, and says what the crates and the archive have.
-header: $(ARCHIVE)
+header: $(X86_64)
 	@echo '== header: rig.h compiles alone with no warning, and has what the crates and the archive have'
 	@for std in c99 c11 c17; do for cc in gcc clang; do $$cc -std=$$std $(CHECKED) -x c -fsyntax-only include/rig.h || exit 1; done; done
 	@for std in c++98 c++11 c++17; do clang++ -std=$$std $(CHECKED) -x c++ -fsyntax-only include/rig.h || exit 1; done
-	@tools/header include/rig.h $(ARCHIVE)
+	@tools/header include/rig.h $(X86_64)
 
 # Every test of a library: the archive, or a build of rig.c.
 against: manual readme ctest example showlogs entries fuzz_some
@@ -144,8 +151,9 @@ dist_alone: dist readme
 	@gcc -std=c99 -O2 -Wall -Wextra -Wpedantic -Werror -Ibuild/dist $(SHOWLOG) build/dist/rig.c -o build/dist/showlog
 	@build/dist/showlog tests/showlog/run.log | diff -u tests/showlog/run.txt -
 
-test-arm test-powerpc: test-%: $(RIG_C) build/readme.c
-	@RIG_TEST='$(RIG_TEST)' CONTROLLER='$(CONTROLLER)' SHOWLOG='$(SHOWLOG)' LOGGED='$(LOGGED)' tests/cross $* $(RIG_C)
+test-x86-64: $(X86_64)
+test-arm test-powerpc test-x86-64: test-%: $(RIG_C) build/readme.c
+	@RIG_TEST='$(RIG_TEST)' CONTROLLER='$(CONTROLLER)' SHOWLOG='$(SHOWLOG)' LOGGED='$(LOGGED)' tests/cross $* $(filter $(RIG_C) $(X86_64),$^)
 
 # The examples of rig.h, built on an installed library as a user would.
 manual: $(LIB)

@@ -528,6 +528,9 @@ static int time_rows(const char *word)
            "table of 256), and of the archive's to second/ (Rust, release, bit by bit): under 1 is faster. Medians of %d alternating runs in one\n"
            "process, each of at least %.0f ms of processor time; the same inputs for all. First it is checked that all agree.\n\n",
            RUNS, 1e3 * SHORTEST_RUN);
+#ifndef __x86_64__
+    puts("The archive is for x86-64, and this is another processor: its columns are those of rig.c once more, at other addresses.\n");
+#endif
     printf("%-27s %9s %10s  %4s %-6s %10s  %4s %-6s %9s\n", "", "ns a call", "archive", "goal", "", "rig.c", "goal", "", "to second");
     for (size_t i = 0; i < ROWS; i++)
         if (word == NULL || strstr(rows[i].name, word) != NULL) {
