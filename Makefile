@@ -134,9 +134,10 @@ printed: $(RIG_C)
 	done
 	@tools/header include/rig.h build/c/gcc-O2/librig.a
 
+# The search for leaks takes three seconds a program on Arm, and showlog is run some two thousand times: it is left to x86-64.
 sanitized: build/c/sanitized/librig.a
 	@echo '== rig.c under the address and undefined-behaviour sanitizers of clang: every test'
-	@$(MAKE) --no-print-directory --silent against LIB=$< OUT=$(<D) FUZZ_RUNS=200000 NO_STACK=--no-stack \
+	@$(if $(ON_X86_64),,ASAN_OPTIONS=detect_leaks=0) $(MAKE) --no-print-directory --silent against LIB=$< OUT=$(<D) FUZZ_RUNS=200000 NO_STACK=--no-stack \
 	    TEST_CC='clang -std=c99 -O1 $(SANITIZE)' FUZZ_CC='clang -std=c99 -g -O1 -fsanitize=fuzzer $(SANITIZE)' \
 	    RUSTFLAGS='-Clinker=clang -Clink-arg=-fsanitize=address,undefined' CARGO_TARGET_DIR=build/sanitized > $(<D)/log 2>&1 || { tail -40 $(<D)/log; exit 1; }
 	@grep -h -e 'checks, 0 failed' -e 'none failed' -e 'test result' $(<D)/log

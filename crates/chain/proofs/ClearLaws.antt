@@ -2,7 +2,7 @@
 use mathlib.Core.Path.{_≡_, refl, ap, _∙_}
 use mathlib.Core.Bool.{Bool, true, false, not, _||_}
 use mathlib.Core.Logic.{_⊎_, ⊎-elim}
-use mathlib.Core.List.{List}
+use mathlib.Core.List.{List, _++_}
 use Prim.Native.Nat.{ℕ, zero, suc, _+_, _*_, _-_, _≤_, _<_}
 use native.Mathlib.Nat.{le-of-suc-le-suc, eq-or-lt-of-le}
 use native.Mathlib.Numerals.{add-one}
@@ -11,11 +11,12 @@ use borrow.Author.Tests.{leb-true}
 use borrow.Rule.Slice.PartMut.{putMid}
 use lib.Dec.{eqb, leb, lit<}
 use lib.ListN.{length, take, drop, replicate, length-replicate}
+use lib.Seq.{take-all}
 use Rattle.lent.specs.Bytes.{Bytes}
-use Rattle.lent.specs.Memory.{splice}
+use Rattle.lent.specs.Memory.{over, splice}
 use Rattle.lent.specs.Refusal.{pick}
 use Rattle.lent.proofs.Bytes.{bytes-splice, bytes-replicate}
-use Rattle.lent.proofs.Over.{filled}
+use Rattle.lent.proofs.Over.{over-full, filled}
 use Rattle.lent.proofs.Parts.{part-replicate}
 use Rattle.lent.proofs.Splice.{length-splice, splice-put, splice-before, splice-after, splice-inside}
 use Rattle.frames.specs.Commands.{Row, rows, kindOf, groupOf}
@@ -53,15 +54,28 @@ clears-some g = some (eqb g 2)
     some true = unfold pick in lit< tt
     some false = unfold pick in lit< tt
 
+-- a part that is filled whole
+pub filled-whole : (n : ℕ) (old after : List ℕ) → length old ≡ n → length after ≡ length (take (n - 0) old) → after ≡ replicate (length (take (n - 0) old)) 255
+    → putMid 0 (n - 0) old after ≡ replicate (length old) 255
+unfolding splice over
+filled-whole n old after e l f =
+    let all : take (n - 0) old ≡ old = take-all (n - 0) old (omega arith) in
+    let start : 0 + length after ≡ length after = omega arith in
+    splice-put 0 n after old (omega (arith, l, ap length all))
+    ∙ ap (λ (i : ℕ). after ++ drop i old) start
+    ∙ over-full after old (omega (arith, l, ap length all))
+    ∙ f
+    ∙ ap (λ (x : List ℕ). replicate (length x) 255) all
+
 -- one turn of the loop
-pub turn : (k g count at : ℕ) (state now after : List ℕ) → at ≡ spot k g → now ≡ cleared k g count state → length after ≡ 6 * count
-    → after ≡ replicate (length (take (at + 6 * count - at) (drop at now))) 255
-    → putMid at (at + 6 * count - at) now after ≡ cleared (k + 1) g count state
+pub turn : (k g count many at : ℕ) (state now after : List ℕ) → many ≡ count → at ≡ spot k g → now ≡ cleared k g count state → length after ≡ 6 * many
+    → after ≡ replicate (length (take (at + 6 * many - at) (drop at now))) 255
+    → putMid at (at + 6 * many - at) now after ≡ cleared (k + 1) g count state
 unfolding cleared silence
-turn k g count at state now after ea en la e =
-    splice-put at (at + 6 * count) after now (omega arith)
-    ∙ ap (λ (l : List ℕ). splice at l now) (filled after 255 (length (take (at + 6 * count - at) (drop at now))) (6 * count) e la)
-    ∙ rw (add-one, ea, en)
+turn k g count many at state now after em ea en la e =
+    splice-put at (at + 6 * many) after now (omega arith)
+    ∙ ap (λ (l : List ℕ). splice at l now) (filled after 255 (length (take (at + 6 * many - at) (drop at now))) (6 * many) e la)
+    ∙ rw (add-one, em, ea, en)
 
 pub length-silence : (count : ℕ) → length (silence count) ≡ count
 unfolding silence

@@ -38,10 +38,10 @@ module _ (n kind g : ℕ) (frame state reply : List ℕ) where
   obeyed-read part e long p =
       (rw e, rw e, rw e (splice-put 4 (4 + 8 * n) part reply (omega arith) ∙ ap (λ (l : List ℕ). splice 4 l reply) p))
 
-  pub obeyed-clear : (word count : ℕ) (state′ : List ℕ) → kind ≡ 3 → word ≡ 2 ^ n - 1 → count ≡ clearCount g → state′ ≡ cleared n g count state
+  pub obeyed-clear : (word : ℕ) (state′ : List ℕ) → kind ≡ 3 → word ≡ 2 ^ n - 1 → state′ ≡ cleared n g (clearCount g) state
       → (word ≡ report n kind frame) × (state′ ≡ changed n kind g frame state) × (reply ≡ pick (isRead kind) (splice 4 (answers n g state) reply) reply)
   unfolding report changed pick
-  obeyed-clear word count state′ e w c s = (rw e w, rw (e, ← c) s, rw e)
+  obeyed-clear word state′ e w s = (rw e w, rw e s, rw e)
 
   pub obeyed-conversion : (word : ℕ) → 3 < kind → word ≡ 2 ^ n - 1
       → (word ≡ report n kind frame) × (state ≡ changed n kind g frame state) × (reply ≡ pick (isRead kind) (splice 4 (answers n g state) reply) reply)

@@ -58,8 +58,7 @@ fn obey(
         return 0;
     }
     if kind == commands::CLEAR {
-        let count = clear::clear_count(group);
-        clear::clear_groups(n, group, count, state);
+        clear::clear_groups(n, group, state);
         return everyone(n);
     }
     // A conversion: every device obeys, and no register changes.

@@ -54,26 +54,32 @@ conversion-ext s t en ec em ed ep eh =
 bounded : ℕ → Bool
 bounded command =
     let p = patternAt command in
-    ltb (p .base) 1200 && (ltb (p .dcp) 2 && (ltb (p .pup) 2 && ltb (p .most) 8))
+    leb 0x200 (p .base) && (ltb (p .base + weighed (p .sort) (p .most)) 1200 && (ltb (p .dcp) 2 && (ltb (p .pup) 2 && ltb (p .most) 8)))
 
 pub record Bounds (p : Pattern) : Type 0 where
-  pub base : p .base < 1200
+  pub least : 0x200 ≤ p .base
+  pub top : p .base + weighed (p .sort) (p .most) < 1200
   pub dcp : p .dcp < 2
   pub pup : p .pup < 2
   pub most : p .most < 8
 
 pub bounds : (command : ℕ) → command < 13 → Bounds (patternAt command)
-unfolding bounded patternAt patterns
+unfolding bounded patternAt patterns weighed pick
 bounds command h =
     let p = patternAt command in
+    let last = ltb (p .pup) 2 && ltb (p .most) 8 in
+    let third = ltb (p .dcp) 2 && last in
+    let top = p .base + weighed (p .sort) (p .most) in
     let t = each-below bounded 13 refl command h in
-    let t1 = and-right (ltb (p .base) 1200) (ltb (p .dcp) 2 && (ltb (p .pup) 2 && ltb (p .most) 8)) t in
-    let t2 = and-right (ltb (p .dcp) 2) (ltb (p .pup) 2 && ltb (p .most) 8) t1 in
+    let t1 = and-right (leb 0x200 (p .base)) (ltb top 1200 && third) t in
+    let t2 = and-right (ltb top 1200) third t1 in
+    let t3 = and-right (ltb (p .dcp) 2) last t2 in
     record {
-      base = ltb-true (p .base) 1200 (and-left (ltb (p .base) 1200) (ltb (p .dcp) 2 && (ltb (p .pup) 2 && ltb (p .most) 8)) t);
-      dcp = ltb-true (p .dcp) 2 (and-left (ltb (p .dcp) 2) (ltb (p .pup) 2 && ltb (p .most) 8) t1);
-      pup = ltb-true (p .pup) 2 (and-left (ltb (p .pup) 2) (ltb (p .most) 8) t2);
-      most = ltb-true (p .most) 8 (and-right (ltb (p .pup) 2) (ltb (p .most) 8) t2);
+      least = leb-true 0x200 (p .base) (and-left (leb 0x200 (p .base)) (ltb top 1200 && third) t);
+      top = ltb-true top 1200 (and-left (ltb top 1200) third t1);
+      dcp = ltb-true (p .dcp) 2 (and-left (ltb (p .dcp) 2) last t2);
+      pup = ltb-true (p .pup) 2 (and-left (ltb (p .pup) 2) (ltb (p .most) 8) t3);
+      most = ltb-true (p .most) 8 (and-right (ltb (p .pup) 2) (ltb (p .most) 8) t3);
     }
 
 -- fields within a pattern
@@ -99,6 +105,15 @@ inside p f t =
       choice = leb-true (f .choice) (p .most) (and-right (leb (p .least) (f .choice)) (leb (f .choice) (p .most)) t3);
     }
 
+-- a larger choice weighs no less
+weighed-grows : (sort choice most : ℕ) → choice ≤ most → weighed sort choice ≤ weighed sort most
+unfolding weighed pick
+weighed-grows sort choice most h = by-test (eqb sort 2)
+  where
+    by-test : (t : Bool) → pick t (0x20 * choice) choice ≤ pick t (0x20 * most) most
+    by-test true = omega arith
+    by-test false = omega arith
+
 -- a bit that may be there, and one that is there
 pub bit-times : (a b : ℕ) → a < 2 → b < 2 → a * b < 2
 bit-times zero b h k = omega arith
@@ -123,21 +138,23 @@ unfolding seek pick
 seek-on code c k e = rw e
 
 -- a command's code by fields that are within it, in bounds
-pub small-code : (p : Pattern) (f : Fields) → Bounds p → Inside p f → codeBy p f < 2048
+pub code-between : (p : Pattern) (f : Fields) → Bounds p → Inside p f → (0x200 ≤ codeBy p f) × (codeBy p f < 0x700)
 unfolding codeBy
-small-code p f b i = omega (arith, b .base, b .dcp, b .pup, b .most, i .mode, i .discharge, i .pullUp, i .choice, weighed-small (p .sort) (f .choice) (omega (arith, b .most, i .choice)))
+code-between p f b i =
+    let w = weighed-grows (p .sort) (f .choice) (p .most) (i .choice) in
+    (omega (arith, b .least), omega (arith, w, b .top, b .dcp, b .pup, i .mode, i .discharge, i .pullUp))
 
 -- what building a code asks for
 pub ready : (p : Pattern) (f : Fields) → Bounds p → within p f ≡ true → (p .base < 2048) × (f .mode < 4) × (f .discharge < 2) × (f .«pull_up» < 2) × (f .choice < 8)
 ready p f b t =
     let i = inside p f t in
-    (omega (arith, b .base), i .mode, omega (arith, b .dcp, i .discharge), omega (arith, b .pup, i .pullUp), omega (arith, b .most, i .choice))
+    (omega (arith, b .top), i .mode, omega (arith, b .dcp, i .discharge), omega (arith, b .pup, i .pullUp), omega (arith, b .most, i .choice))
 
 -- and fields that were read from a code have it
 pub read-ready : (p : Pattern) (f : Fields) (code : ℕ) → Bounds p → f ≡ fieldsBy p code
     → (p .base < 2048) × (f .mode < 4) × (f .discharge < 2) × (f .«pull_up» < 2) × (f .choice < 8)
 unfolding fieldsBy choiceIn
-read-ready p f code b e = rw e (omega (arith, b .base), omega arith, one (p .dcp) (code / 0x10) (b .dcp), one (p .pup) (code / 0x40) (b .pup), chosen (eqb (p .sort) 2) (eqb (p .sort) 1))
+read-ready p f code b e = rw e (omega (arith, b .top), omega arith, one (p .dcp) (code / 0x10) (b .dcp), one (p .pup) (code / 0x40) (b .pup), chosen (eqb (p .sort) 2) (eqb (p .sort) 1))
   where
     one : (a x : ℕ) → a < 2 → a * (x % 2) < 2
     one zero x h = omega arith
@@ -230,9 +247,10 @@ own code e =
       built = eqb-true (codeBy p f) code (and-right (within p f) (eqb (codeBy p f) code) t);
     }
 
-pub conversion-below : (code : ℕ) → isConversion code ≡ true → code < 2048
-conversion-below code e =
+pub conversion-between : (code : ℕ) → isConversion code ≡ true → (0x200 ≤ code) × (code < 0x700)
+conversion-between code e =
     let o = own code e in
     let p = patternAt (commandOf code) in
     let f = fieldsBy p code in
-    omega (arith, o .built, small-code p f (bounds (commandOf code) (o .command)) (inside p f (o .within)))
+    let c = code-between p f (bounds (commandOf code) (o .command)) (inside p f (o .within)) in
+    (omega (arith, o .built, c .0), omega (arith, o .built, c .1))

@@ -1,20 +1,20 @@
 -- The law of the command table: a code is found with its kind and group, or is a conversion, or unknown; no code stands twice. A rule of the rows is one test that antt
 -- computes over all of them, and it then holds of whatever is looked up. Assumes nothing.
 use mathlib.Core.Path.{_≡_, refl, sym, ap, _∙_}
-use mathlib.Core.Bool.{Bool, true, false, not, _&&_, _||_}
+use mathlib.Core.Bool.{Bool, true, false, not, _&&_, _||_, true≢false}
 use mathlib.Core.List.{List, [], _∷_, map}
 use Prim.Native.Nat.{ℕ, suc, _+_, _*_, _≤_, _<_}
 use native.Mathlib.Numerals.{add-one}
 use native.Mathlib.Omega.{arith}
-use borrow.Author.Tests.{eqb-true, eqb-false, ltb-true, eq-eqb, ne-eqb, lt-ltb}
-use lib.Dec.{eqb, ltb}
+use borrow.Author.Tests.{eqb-true, eqb-false, ltb-true, leb-true, eq-eqb, ne-eqb, lt-ltb, le-ltb, le-leb}
+use lib.Dec.{eqb, ltb, leb}
 use lib.ListN.{length, getD, drop, drop-of-length-le, List·getD-map}
 use lib.Seq.{drop-cons}
 use Rattle.lent.specs.Refusal.{pick, first}
 use Rattle.lent.proofs.Tests.{and-left, and-right, below, each-below}
 use Rattle.frames.specs.Conversions.{isConversion, ofNumber}
 use Rattle.frames.specs.Commands.{Row, row, rows, unlisted, found, kindOf, groupOf}
-use Rattle.frames.proofs.ConversionLaws.{conversion-below}
+use Rattle.frames.proofs.ConversionLaws.{conversion-between}
 
 -- the row at a place, and past the table's end an empty one
 abbrev pub rowAt : ℕ → Row
@@ -73,7 +73,7 @@ unfolding narrow unlisted
 narrow-unlisted code = by-kind (isConversion code) refl
   where
     by-kind : (b : Bool) → isConversion code ≡ b → (eqb (pick b 4 0) 0 || ltb code 2048) ≡ true
-    by-kind true e = unfold pick in lt-ltb code 2048 (conversion-below code e)
+    by-kind true e = unfold pick in lt-ltb code 2048 (omega (arith, conversion-between code e .1))
     by-kind false e = unfold pick in refl
 
 pub known-below : (code : ℕ) → (kindOf code ≡ 0 → ⊥) → code < 2048
@@ -128,6 +128,34 @@ absent code (r ∷ rs) none = rw (ne-eqb (r .code) code (none 0 (omega arith)), 
 pub no-row : (code : ℕ) → ((i : ℕ) → i < 26 → rowAt i .code ≡ code → ⊥) → kindOf code ≡ pick (isConversion code) 4 0
 unfolding kindOf rows unlisted
 no-row code none = ap (λ (r : Row). r .kind) (absent code rows none)
+
+-- conversions have codes from 0x200 to 0x6FF, and there the table has none
+apart : ℕ → Bool
+apart i = ltb (rowAt i .code) 0x200 || leb 0x700 (rowAt i .code)
+
+abbrev pub between : ℕ → Bool
+between code = leb 0x200 code && ltb code 0x700
+
+pub not-listed : (code : ℕ) → between code ≡ true → found code rows ≡ unlisted code
+unfolding apart rows
+not-listed code t = absent code rows (λ i k e. clash (rowAt i .code) e (each-below apart 26 refl i k))
+  where
+    clash : (c : ℕ) → c ≡ code → (ltb c 0x200 || leb 0x700 c) ≡ true → ⊥
+    clash c e a =
+        let l = leb-true 0x200 code (and-left (leb 0x200 code) (ltb code 0x700) t) in
+        let big : leb 0x700 code ≡ true = rw (e, le-ltb code 0x200 l) at a in
+        omega (arith, leb-true 0x700 code big, ltb-true code 0x700 (and-right (leb 0x200 code) (ltb code 0x700) t))
+
+pub no-conversion : (code : ℕ) → between code ≡ false → unlisted code ≡ row code 0 0
+unfolding unlisted pick
+no-conversion code f = by-test (isConversion code) refl
+  where
+    by-test : (b : Bool) → isConversion code ≡ b → row code (pick b 4 0) 0 ≡ row code 0 0
+    by-test true e =
+        let c = conversion-between code e in
+        let t : between code ≡ true = simp (le-leb 0x200 code (c .0), lt-ltb code 0x700 (c .1)) in
+        absurd (true≢false (sym t ∙ f))
+    by-test false e = refl
 
 -- no code stands twice
 sameRow : ℕ → ℕ → Bool

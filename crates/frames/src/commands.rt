@@ -1,6 +1,8 @@
-// The one table of 26 commands, and the search by code that writer, chain and reader use: where no row fits, it asks for a conversion.
+// The one table of 26 commands, and the search by code that writer, chain and reader use: where no row can fit, it asks for a conversion.
 ghost use mathlib.Core.Path.{_≡_};
-ghost use Rattle.frames.specs.Commands.{kindOf, groupOf};
+ghost use mathlib.Core.Bool.{_&&_};
+ghost use lib.Dec.{leb, ltb};
+ghost use Rattle.frames.specs.Commands.{kindOf, groupOf, unlisted as Commands·unlisted};
 use crate::conversions;
 
 // Row by row as document 01 has them: code, kind, and the group written or read; of a clear, the first group it sets.
@@ -106,10 +108,39 @@ pub struct Command {
     pub group: u8,
 }
 
+// Whether a code is from 0x200 to 0x6FF: there conversions have theirs, and the table has none.
+fn is_unlisted(code: u32) -> bool
+    ensures { λ r. ⌜ r ≡ (leb 0x200 code && ltb code 0x700) ⌝ }
+{
+    if code < 0x200 {
+        return false;
+    }
+    code < 0x700
+}
+
+// The kind and group of a code that no row of the table has.
+fn unlisted(code: u32) -> Command
+    ensures { λ r. ⌜ (r .kind ≡ Commands·unlisted code .kind) × (r .group ≡ Commands·unlisted code .group) ⌝ }
+{
+    if conversions::conversion_of(code).number == 0 {
+        return Command {
+            kind: CONVERSION,
+            group: 0,
+        };
+    }
+    Command {
+        kind: UNKNOWN,
+        group: 0,
+    }
+}
+
 // The kind and group of a code; UNKNOWN where neither the table nor a conversion has it.
 pub fn find(code: u32) -> Command
     ensures { λ r. ⌜ (r .kind ≡ kindOf code) × (r .group ≡ groupOf code) ⌝ }
 {
+    if is_unlisted(code) {
+        return unlisted(code);
+    }
     // Named behind the search, a column would be laid on the stack byte by byte.
     let codes = CODES;
     let kinds = KINDS;
@@ -123,12 +154,6 @@ pub fn find(code: u32) -> Command
             };
         }
         i += 1;
-    }
-    if conversions::conversion_of(code).number == 0 {
-        return Command {
-            kind: CONVERSION,
-            group: 0,
-        };
     }
     Command {
         kind: UNKNOWN,

@@ -3,7 +3,6 @@ use mathlib.Core.Path.{_∙_}
 use native.Mathlib.Omega.{arith}
 use borrow.Author.Needs.{needs}
 use Rattle.frames.proofs.KindCases.{length-long}
-use Rattle.chain.proofs.ClearLaws.{clears-some}
 use Rattle.chain.proofs.Obeyed.{obeyed-write, obeyed-read, obeyed-clear, obeyed-conversion}
 use Rattle.chain.proofs.obey.Statement.{statement}
 use Rattle.chain.proofs.obey.Tie as tie
@@ -34,15 +33,13 @@ returns-2 c =
 
 clear-groups-requires : tie.Need-clear-groups-requires
 clear-groups-requires c κs =
-    let start = c .before .before .before .before .before .before .before .before in
-    let many = c .before .clear-count .ensures in
-    (omega arith, omega (arith, clears-some (start .args .group)), omega (arith, start .pre .4 (omega arith)), start .pre .6 .whole)
+    let start = c .before .before .before .before .before .before .before in
+    (omega arith, start .pre .4 (omega arith), start .pre .6 .whole)
 
 returns-3 : tie.Need-returns-3
 returns-3 c =
-    let a = c .before .before .before .before .before .before .before .before .before .before .before .before .args in
-    let cleared = c .before .before .before .clear-groups in
-    obeyed-clear (a .n) (a .kind) (a .group) (a .frame .now) (a .state .now) (a .reply .now) _ _ _ (omega arith) (c .everyone .ensures) (c .before .before .before .before .before .clear-count .ensures) (cleared .ensures)
+    let a = c .before .before .before .before .before .before .before .before .before .before .before .args in
+    obeyed-clear (a .n) (a .kind) (a .group) (a .frame .now) (a .state .now) (a .reply .now) _ _ (omega arith) (c .everyone .ensures) (c .before .before .before .clear-groups .ensures)
 
 returns-4 : tie.Need-returns-4
 returns-4 c =
@@ -65,7 +62,6 @@ obey-spec =
     (λ c. search needs)
     (λ c. search needs)
     returns-2
-    (λ c κs. search needs)
     clear-groups-requires
     (λ c κs. search needs)
     (λ c. search needs)

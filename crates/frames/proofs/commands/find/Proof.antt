@@ -6,7 +6,7 @@ use native.Mathlib.Omega.{arith}
 use borrow.Author.Needs.{needs}
 use lib.ListN.{getD, drop, List·getD-map}
 use Rattle.frames.specs.Commands.{Row, row, rows, found, kindOf, groupOf}
-use Rattle.frames.proofs.Lookup.{codes, hit, miss, none-left, asked, unknown}
+use Rattle.frames.proofs.Lookup.{codes, hit, miss, none-left, not-listed, no-conversion}
 use Rattle.frames.proofs.commands.find.Statement.{statement}
 use Rattle.frames.proofs.commands.find.Tie as tie
 
@@ -22,10 +22,16 @@ unfolding rows
 loop-holds c = (omega arith, refl, refl, refl, refl)
 
 returns : tie.Need-returns Inv-loop μ-loop
-unfolding kindOf groupOf rows
+unfolding kindOf groupOf
 returns c =
+    let e = not-listed (c .before .before .before .args .code) (sym (c .before .before .is-unlisted .ensures) ∙ c .before .if1 .taken) in
+    (c .unlisted .ensures .0 ∙ sym (ap (λ (r : Row). r .kind) e), c .unlisted .ensures .1 ∙ sym (ap (λ (r : Row). r .group) e))
+
+returns-2 : tie.Need-returns-2 Inv-loop μ-loop
+unfolding kindOf groupOf rows
+returns-2 c =
     let l = c .before .before .loop in
-    let e = l .inv .4 ∙ hit (c .before .before .before .args .code) (l .i) (omega arith) (c .if1 .taken) in (
+    let e = l .inv .4 ∙ hit (c .before .before .before .before .before .args .code) (l .i) (omega arith) (c .if2 .taken) in (
       ap (λ (t : List ℕ). getD t (l .i) 0) (l .inv .2) ∙ List·getD-map (λ (r : Row). r .kind) rows (l .i) (row 0 0 0) ∙ sym (ap (λ (r : Row). r .kind) e),
       ap (λ (t : List ℕ). getD t (l .i) 0) (l .inv .3) ∙ List·getD-map (λ (r : Row). r .group) rows (l .i) (row 0 0 0) ∙ sym (ap (λ (r : Row). r .group) e),
     )
@@ -34,22 +40,14 @@ loop-again : tie.Need-loop-again Inv-loop μ-loop
 unfolding rows
 loop-again c =
     let l = c .before .before .loop in
-    (omega arith, l .inv .1, l .inv .2, l .inv .3, l .inv .4 ∙ miss (c .before .before .before .args .code) (l .i) (omega arith) (c .if1 .left))
-
-returns-2 : tie.Need-returns-2 Inv-loop μ-loop
-unfolding kindOf groupOf rows
-returns-2 c =
-    let l = c .before .before .before .before .loop in
-    let code = c .before .before .before .before .before .args .code in
-    let e = l .inv .4 ∙ none-left code (l .i) (omega arith) ∙ asked code _ (c .before .before .conversion-of .ensures .number) (c .if2 .taken) in
-    (sym (ap (λ (r : Row). r .kind) e), sym (ap (λ (r : Row). r .group) e))
+    (omega arith, l .inv .1, l .inv .2, l .inv .3, l .inv .4 ∙ miss (c .before .before .before .before .before .args .code) (l .i) (omega arith) (c .if2 .left))
 
 returns-3 : tie.Need-returns-3 Inv-loop μ-loop
 unfolding kindOf groupOf rows
 returns-3 c =
-    let l = c .before .before .before .before .loop in
-    let code = c .before .before .before .before .before .args .code in
-    let e = l .inv .4 ∙ none-left code (l .i) (omega arith) ∙ unknown code _ (c .before .before .conversion-of .ensures .number) (c .if2 .left) in
+    let l = c .before .loop in
+    let code = c .before .before .before .before .args .code in
+    let e = l .inv .4 ∙ none-left code (l .i) (omega arith) ∙ no-conversion code (sym (c .before .before .before .is-unlisted .ensures) ∙ c .before .before .if1 .left) in
     (sym (ap (λ (r : Row). r .kind) e), sym (ap (λ (r : Row). r .group) e))
 
 pub find-spec : {M : Type 1} → statement M
@@ -58,15 +56,16 @@ find-spec =
     (tie.spec
     Inv-loop
     μ-loop
+    (λ c κs. search needs)
+    (λ c κs. search needs)
+    returns
     loop-holds
     (λ c. omega arith)
     (λ c. omega arith)
     (λ c. omega arith)
     (λ c. omega arith)
-    returns
+    returns-2
     (λ c. omega arith)
     (λ c. omega arith)
     loop-again
-    (λ c κs. search needs)
-    returns-2
     returns-3)

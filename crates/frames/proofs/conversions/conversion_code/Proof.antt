@@ -3,7 +3,7 @@ use mathlib.Core.Path.{sym, _∙_}
 use native.Mathlib.Omega.{arith}
 use borrow.Author.Needs.{needs}
 use Rattle.frames.specs.Conversions.{fields}
-use Rattle.frames.proofs.ConversionLaws.{bounds, inside, ready, small-code}
+use Rattle.frames.proofs.ConversionLaws.{bounds, inside, ready, code-between}
 use Rattle.frames.proofs.ConversionCases.{no-command, no-field, built}
 use Rattle.frames.proofs.conversions.conversion_code.Statement.{statement}
 use Rattle.frames.proofs.conversions.conversion_code.Tie as tie
@@ -26,7 +26,7 @@ cast-t15 c =
     let a = c .before .before .before .before .before .before .before .args in
     let row = c .before .before .before .pattern-at in
     let f = fields (a .mode) (a .discharge) (a .pull-up) (a .choice) in
-    omega (arith, c .code-by .ensures, small-code (row .result) f (rw (row .ensures) (bounds (a .command) (omega arith))) (inside (row .result) f (sym (c .before .before .are-within .ensures) ∙ c .before .if2 .taken)))
+    omega (arith, c .code-by .ensures, code-between (row .result) f (rw (row .ensures) (bounds (a .command) (omega arith))) (inside (row .result) f (sym (c .before .before .are-within .ensures) ∙ c .before .if2 .taken)) .1)
 
 returns-2 : tie.Need-returns-2
 returns-2 c =
