@@ -7,9 +7,10 @@
 # make test-x86-64  the C tests of the toolchain's archive and of rig.c on x86-64, on a machine of another kind (there make test runs it)
 # make install   header, archive and rig.pc for pkg-config under PREFIX (default /usr/local)
 # make bench     how long the entries take beside plain C and beside second/ (ARGS=cells: the rows with that in their name)
+# make count-x86-64  how many instructions they take on x86-64, on a machine of any kind (ARGS as for bench)
 # make fuzz      inputs to the C entries as long as one likes (FUZZ=-runs=N: N of them)
 # make fmt       lay out every Rattle, proof and Rust file
-.PHONY: run showlog test test-arm test-powerpc test-x86-64 lib dist install bench fuzz fmt need second header against printed sanitized manual readme ctest example showlogs entries fuzz_some dist_alone FORCE
+.PHONY: run showlog test test-arm test-powerpc test-x86-64 lib dist install bench count-x86-64 fuzz fmt need second header against printed sanitized manual readme ctest example showlogs entries fuzz_some dist_alone FORCE
 
 PREFIX ?= /usr/local
 VERSION := 3.0.0
@@ -249,6 +250,13 @@ fuzz: $(OUT)/fuzz
 bench: build/bench/bench
 	@build/bench/bench '$(ARGS)'
 	@bench/count build/bench/bench '$(ARGS)'
+
+count-x86-64: build/x86-64/bench
+	@bench/count --x86-64 $< '$(ARGS)'
+
+build/x86-64/bench: $(wildcard bench/*.c bench/*.h) include/rig.h $(X86_64) $(RIG_C)
+	@x86_64-linux-gnu-gcc -std=c99 -O2 $(CHECKED) -include bench/renamed.h -c $(RIG_C) -o $(@D)/printed.o
+	@x86_64-linux-gnu-gcc -std=c99 -O2 -static -DNO_SECOND $(CHECKED) $(filter bench/%.c,$^) $(@D)/printed.o $(X86_64) -o $@
 
 build/bench/bench: $(wildcard bench/*.c bench/*.h) include/rig.h $(ARCHIVE) build/bench/printed.o $(SECOND)
 	@$(C99) $(filter bench/%.c,$^) build/bench/printed.o $(ARCHIVE) $(SECOND) -o $@

@@ -5,7 +5,7 @@
        bench            time every row
        bench WORD       time the rows with WORD in their name
        bench --rows     print the names of the rows
-       bench --run MAKER ROW   SETS calls of one maker (printed, plain) and nothing else, for bench/count */
+       bench --run MAKER ROW   SETS calls of one maker (archive, printed, plain) and nothing else, for bench/count */
 #define _POSIX_C_SOURCE 199309L
 
 #include "makers.h"
@@ -43,8 +43,10 @@ static const struct maker makers[MAKERS] = {
      printed_conversion_code, printed_conversion_of, printed_log_put, printed_log_at, printed_log_walk},
     {"plain", plain_pec, plain_write, plain_chain, plain_read, plain_cells, plain_tally_add,
      plain_conversion_code, plain_conversion_of, plain_log_put, plain_log_at, plain_log_walk},
+#ifndef NO_SECOND /* for a processor that Rust is not built for here: there calls are counted, and not timed */
     {"second", second_pec, second_write, second_chain, second_read, second_cells, second_tally_add,
      second_conversion_code, second_conversion_of, second_log_put, second_log_at, second_log_walk},
+#endif
 };
 
 static const uint32_t writes[6] = {RIG_WRCFGA, RIG_WRCFGB, RIG_WRCOMM, RIG_WRSCTRL, RIG_WRPWM, RIG_WRPSB};
@@ -504,7 +506,7 @@ static int run_one(const char *maker, const char *row)
 {
     for (size_t m = 0; m < MAKERS; m++)
         for (size_t i = 0; i < ROWS; i++)
-            if (!strcmp(makers[m].name, maker) && !strcmp(rows[i].name, row)) {
+            if (makers[m].name != NULL && !strcmp(makers[m].name, maker) && !strcmp(rows[i].name, row)) {
                 make_frames(devices_of(&rows[i]));
                 rows[i].turn(&makers[m], rows[i].n, SETS);
                 return 0;
@@ -552,5 +554,9 @@ int main(int words, char **word)
         return show_rows();
     if (words == 4 && !strcmp(word[1], "--run"))
         return run_one(word[2], word[3]);
+    if (makers[SECOND].name == NULL) {
+        fprintf(stderr, "bench: built without second/: nothing is timed, and only --rows and --run are taken\n");
+        return 2;
+    }
     return time_rows(words < 2 ? NULL : word[1]);
 }
