@@ -66,19 +66,22 @@ right-made d =
     one-less : length (d ++ w) - 1 ≡ length d + 1
     one-less = let e = length-append d w in omega arith
 
--- the difference as the code works it out
-pub off-law : (g : List ℕ) (p : ℕ) → 2 ≤ length g → getD g (length g - 2) 0 < 256 → getD g (length g - 2 + 1) 0 < 256 → p ≡ pecOf (body g)
-    → bitXor (bitOr (getD g (length g - 2) 0 * 256 % 65536) (getD g (length g - 2 + 1) 0)) p ≡ offBy g
-unfolding offBy sent
-off-law g p h hi lo e =
+-- the difference of a group of n bytes and their word, as the code works it out
+pub off-law : (g : List ℕ) (n p : ℕ) → length g ≡ n + 2 → getD g n 0 < 256 → getD g (n + 1) 0 < 256 → p ≡ pecOf (take n g)
+    → bitXor (bitOr (getD g n 0 * 256 % 65536) (getD g (n + 1) 0)) p ≡ offBy g
+unfolding offBy sent body
+off-law g n p l hi lo e =
     ap₂ bitXor
-    (ap (λ (x : ℕ). bitOr x (getD g (length g - 2 + 1) 0)) (whole (getD g (length g - 2) 0) hi)
-    ∙ or-shifted (getD g (length g - 2) 0) 8 (getD g (length g - 2 + 1) 0) lo
-    ∙ ap (λ (n : ℕ). getD g (length g - 2) 0 * 256 + getD g n 0) next)
-    e
+    (ap (λ (x : ℕ). bitOr x (getD g (n + 1) 0)) (whole (getD g n 0) hi)
+    ∙ or-shifted (getD g n 0) 8 (getD g (n + 1) 0) lo
+    ∙ ap₂ (λ (i j : ℕ). getD g i 0 * 256 + getD g j 0) two-less one-less)
+    (e ∙ ap (λ (i : ℕ). pecOf (take i g)) two-less)
   where
     whole : (x : ℕ) → x < 256 → x * 256 % 65536 ≡ x * 256
-    whole x l = omega arith
+    whole x b = omega arith
 
-    next : length g - 2 + 1 ≡ length g - 1
-    next = omega arith
+    two-less : n ≡ length g - 2
+    two-less = omega arith
+
+    one-less : n + 1 ≡ length g - 1
+    one-less = omega arith

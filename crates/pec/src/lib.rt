@@ -1,6 +1,6 @@
 // The check word PEC15 of bytes, by a table of 256 remainders, and the check of a group by it.
 ghost use mathlib.Core.Path.{_≡_};
-ghost use Prim.Native.Nat.{_<_, _≤_};
+ghost use Prim.Native.Nat.{_<_};
 ghost use lib.ListN.{length};
 ghost use Rattle.pec.specs.Register.{bits8, feed, pecOf};
 ghost use Rattle.pec.specs.Polynomial.{entryOf};
@@ -341,20 +341,19 @@ pub fn pec(bytes: &[u8]) -> u16
     pec_by(&all, bytes)
 }
 
-// How the word that a group sends and the word of its data differ, in 16 bits: 0 where the group is right.
+// How the word that a data group sends and the word of its six bytes differ, in 16 bits: 0 where the group is right.
 pub fn off_by(table: &[u16; 256], group: &[u8]) -> u16
-    requires { ⌜ (now table ≡ remainders) × (2 ≤ length (now group)) ⌝ }
+    requires { ⌜ (now table ≡ remainders) × (length (now group) ≡ 8) ⌝ }
     ensures { λ r. ⌜ r ≡ offBy (now (group .entry)) ⌝ }
 {
-    let n = group.len() - 2;
-    let word = pec_by(table, &group[0..n]);
-    let sent = ((group[n] as u16) << 8) | (group[n + 1] as u16);
+    let word = pec_of_six(table, &group[0..6]);
+    let sent = ((group[6] as u16) << 8) | (group[7] as u16);
     sent ^ word
 }
 
-// Whether a group is right: all 16 bits of its word agree.
+// Whether a data group is right: all 16 bits of its word agree.
 pub fn is_right(table: &[u16; 256], group: &[u8]) -> bool
-    requires { ⌜ (now table ≡ remainders) × (2 ≤ length (now group)) ⌝ }
+    requires { ⌜ (now table ≡ remainders) × (length (now group) ≡ 8) ⌝ }
     ensures { λ r. ⌜ r ≡ right (now (group .entry)) ⌝ }
 {
     off_by(table, group) == 0
