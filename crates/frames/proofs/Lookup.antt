@@ -2,7 +2,7 @@
 -- computes over all of them, and it then holds of whatever is looked up. Assumes nothing.
 use mathlib.Core.Path.{_≡_, refl, sym, ap, _∙_}
 use mathlib.Core.Bool.{Bool, true, false, not, _&&_, _||_, true≢false}
-use mathlib.Core.List.{List, [], _∷_, map}
+use mathlib.Core.List.{List, [], _∷_}
 use Prim.Native.Nat.{ℕ, suc, _+_, _*_, _≤_, _<_}
 use native.Mathlib.Numerals.{add-one}
 use native.Mathlib.Omega.{arith}
@@ -14,6 +14,7 @@ use Rattle.lent.specs.Refusal.{pick, first}
 use Rattle.lent.proofs.Tests.{and-left, and-right, below, each-below}
 use Rattle.frames.specs.Conversions.{isConversion, ofNumber}
 use Rattle.frames.specs.Commands.{Row, row, rows, unlisted, found, kindOf, groupOf}
+use Rattle.frames.specs.Columns.{codeColumn}
 use Rattle.frames.proofs.ConversionLaws.{conversion-between}
 
 -- the row at a place, and past the table's end an empty one
@@ -168,16 +169,13 @@ no-code-twice i j hi hj e =
     eqb-true i j (rw (eq-eqb (rowAt i .code) (rowAt j .code) e) at t)
 
 -- The search, row by row: the code is at i; it is not; the table is at its end.
-abbrev pub codes : List ℕ
-codes = map (λ (r : Row). r .code) rows
-
-pub hit : (code i : ℕ) → i < length rows → getD codes i 0 ≡ code → found code (drop i rows) ≡ rowAt i
-unfolding found pick
+pub hit : (code i : ℕ) → i < length rows → getD codeColumn i 0 ≡ code → found code (drop i rows) ≡ rowAt i
+unfolding found pick codeColumn
 hit code i h e =
     rw (drop-cons rows i (row 0 0 0) h, eq-eqb (rowAt i .code) code (sym (List·getD-map (λ (r : Row). r .code) rows i (row 0 0 0)) ∙ e))
 
-pub miss : (code i : ℕ) → i < length rows → (getD codes i 0 ≡ code → ⊥) → found code (drop i rows) ≡ found code (drop (i + 1) rows)
-unfolding found pick
+pub miss : (code i : ℕ) → i < length rows → (getD codeColumn i 0 ≡ code → ⊥) → found code (drop i rows) ≡ found code (drop (i + 1) rows)
+unfolding found pick codeColumn
 miss code i h e =
     rw (add-one, drop-cons rows i (row 0 0 0) h, ne-eqb (rowAt i .code) code (λ s. e (List·getD-map (λ (r : Row). r .code) rows i (row 0 0 0) ∙ s)))
 

@@ -4,6 +4,7 @@ pub mod Kind
 pub mod Conversions
 pub mod Packed
 pub mod Commands
+pub mod Columns
 pub mod Places
 pub mod Frame
 pub mod Writer

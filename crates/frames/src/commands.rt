@@ -3,10 +3,12 @@ ghost use mathlib.Core.Path.{_≡_};
 ghost use mathlib.Core.Bool.{_&&_};
 ghost use lib.Dec.{leb, ltb};
 ghost use Rattle.frames.specs.Commands.{kindOf, groupOf, unlisted as Commands·unlisted};
+ghost use Rattle.frames.specs.Columns.{codeColumn, kindColumn, groupColumn};
 use crate::conversions;
 
 // Row by row as document 01 has them: code, kind, and the group written or read; of a clear, the first group it sets.
-const CODES: [u32; 26] = [
+// A constant array is copied wherever it is named: name each column once, and lend it to `find_in`.
+pub const CODES: [u32; 26] = [
     0x001,
     0x002,
     0x024,
@@ -35,7 +37,7 @@ const CODES: [u32; 26] = [
     0x712,
 ];
 
-const KINDS: [u8; 26] = [
+pub const KINDS: [u8; 26] = [
     1,
     2,
     1,
@@ -64,7 +66,7 @@ const KINDS: [u8; 26] = [
     3,
 ];
 
-const GROUPS: [u8; 26] = [
+pub const GROUPS: [u8; 26] = [
     0,
     0,
     1,
@@ -134,19 +136,17 @@ fn unlisted(code: u32) -> Command
     }
 }
 
-// The kind and group of a code; UNKNOWN where neither the table nor a conversion has it.
-pub fn find(code: u32) -> Command
+// The kind and group of a code, by lent columns; UNKNOWN where neither the table nor a conversion has it. The search goes as far as what is lent, and not to 26:
+// so a compiler makes it a part of the caller, and knows each row there.
+pub fn find_in(codes: &[u32], kinds: &[u8], groups: &[u8], code: u32) -> Command
+    requires { ⌜ (now codes ≡ codeColumn) × (now kinds ≡ kindColumn) × (now groups ≡ groupColumn) ⌝ }
     ensures { λ r. ⌜ (r .kind ≡ kindOf code) × (r .group ≡ groupOf code) ⌝ }
 {
     if is_unlisted(code) {
         return unlisted(code);
     }
-    // Named behind the search, a column would be laid on the stack byte by byte.
-    let codes = CODES;
-    let kinds = KINDS;
-    let groups = GROUPS;
     let mut i: usize = 0;
-    while i < 26 {
+    while i < codes.len() {
         if codes[i] == code {
             return Command {
                 kind: kinds[i],
@@ -159,4 +159,14 @@ pub fn find(code: u32) -> Command
         kind: UNKNOWN,
         group: 0,
     }
+}
+
+// The same, for a caller that has no columns.
+pub fn find(code: u32) -> Command
+    ensures { λ r. ⌜ (r .kind ≡ kindOf code) × (r .group ≡ groupOf code) ⌝ }
+{
+    let codes = CODES;
+    let kinds = KINDS;
+    let groups = GROUPS;
+    find_in(&codes, &kinds, &groups, code)
 }
