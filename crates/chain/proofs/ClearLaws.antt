@@ -10,14 +10,13 @@ use native.Mathlib.Omega.{arith}
 use borrow.Author.Tests.{leb-true}
 use borrow.Rule.Slice.PartMut.{putMid}
 use lib.Dec.{eqb, leb, lit<}
-use lib.ListN.{length, take, drop, replicate, length-replicate}
+use lib.ListN.{length, take, drop, replicate}
 use lib.Seq.{take-all}
 use Rattle.lent.specs.Bytes.{Bytes}
 use Rattle.lent.specs.Memory.{over, splice}
 use Rattle.lent.specs.Refusal.{pick}
 use Rattle.lent.proofs.Bytes.{bytes-splice, bytes-replicate}
 use Rattle.lent.proofs.Over.{over-full, filled}
-use Rattle.lent.proofs.Parts.{part-replicate}
 use Rattle.lent.proofs.Splice.{length-splice, splice-put, splice-before, splice-after, splice-inside}
 use Rattle.frames.specs.Commands.{Row, rows, kindOf, groupOf}
 use Rattle.frames.proofs.Lookup.{looked-up}
@@ -25,6 +24,7 @@ use Rattle.chain.specs.State.{stateLength, spot, stored, pin, shown}
 use Rattle.chain.specs.Effect.{silence, clearCount, cleared}
 use Rattle.chain.proofs.DtenLaws.{no-dten}
 use Rattle.chain.proofs.StateLaws.{within, apart, shown-alike, pin-splice}
+use Rattle.chain.proofs.Silence.{length-silence, part-silence}
 
 -- the groups of a clear are of the eighteen: one computed test over the table's rows
 roomy : Row → Bool
@@ -76,15 +76,6 @@ turn k g count many at state now after em ea en la e =
     splice-put at (at + 6 * many) after now (omega arith)
     ∙ ap (λ (l : List ℕ). splice at l now) (filled after 255 (length (take (at + 6 * many - at) (drop at now))) (6 * many) e la)
     ∙ rw (add-one, em, ea, en)
-
-pub length-silence : (count : ℕ) → length (silence count) ≡ count
-unfolding silence
-length-silence count = length-replicate {A = ℕ} count 255
-
--- a part of the silence is silence
-pub part-silence : (j n m : ℕ) → j + n ≤ m → take n (drop j (silence m)) ≡ silence n
-unfolding silence
-part-silence j n m h = part-replicate j n m 255 h
 
 module _ (n g count : ℕ) (state : List ℕ) (room : g + count ≤ 18) (whole : length state ≡ stateLength n) where
   pub length-cleared : (j : ℕ) → j ≤ n → length (cleared j g count state) ≡ stateLength n

@@ -1,5 +1,6 @@
 pub mod DtenLaws
 pub mod StateLaws
+pub mod Silence
 pub mod ReadLaws
 pub mod WriteLaws
 pub mod ClearLaws

@@ -1,25 +1,22 @@
 -- The chain's number in each case, in the order of the tests, and what each outcome has to show. Assumes nothing.
-use mathlib.Core.Path.{_≡_, refl, sym, _∙_}
-use mathlib.Core.Bool.{Bool, true, false}
-use mathlib.Core.List.{List, _++_}
+use mathlib.Core.Path.{_≡_, sym, _∙_}
+use mathlib.Core.Bool.{true, false}
+use mathlib.Core.List.{List}
 use Prim.Native.Nat.{ℕ, _-_, _≤_, _<_}
-use native.Mathlib.Omega.{arith}
-use borrow.Author.Tests.{eqb-true, eq-eqb, ne-eqb, lt-ltb, le-ltb}
+use borrow.Author.Tests.{eq-eqb, ne-eqb, lt-ltb, le-ltb}
 use lib.Dec.{eqb}
-use lib.ListN.{length, take, drop, replicate, length-replicate}
-use lib.Seq.{length-take-le}
+use lib.ListN.{length, take}
 use Rattle.lent.specs.Refusal.{pick, first}
-use Rattle.lent.specs.Memory.{over, splice}
+use Rattle.lent.specs.Memory.{over}
 use Rattle.pec.specs.Group.{right}
 use Rattle.frames.specs.Size.{outside}
-use Rattle.frames.specs.Kind.{isRead, frameLength}
+use Rattle.frames.specs.Kind.{frameLength}
 use Rattle.frames.specs.Commands.{kindOf, groupOf}
-use Rattle.frames.proofs.KindCases.{length-long}
 use Rattle.chain.specs.State.{stateLength, pinAbove, Sound}
-use Rattle.chain.specs.Effect.{silence, answers, answer, changed, report}
+use Rattle.chain.specs.Effect.{silence, answer, changed, report}
 use Rattle.chain.specs.Chain.{codeOf, chainNumber, fills, chainWord, chainState, chainReply, Serves}
+use Rattle.chain.specs.declared.Heard.{Heard}
 use Rattle.chain.proofs.StateLaws.{none-above}
-use Rattle.chain.proofs.ReadLaws.{over-silence}
 
 -- Each section takes one test as passed. What the code holds by then (the kind, the frame's length) comes with its meaning.
 module _ (n : ℕ) (frame state : List ℕ) (r : ℕ) where
@@ -71,14 +68,6 @@ module _ (n : ℕ) (frame state : List ℕ) (r : ℕ) where
               unfolding chainNumber first pick
               number-0 h = simp (i, eq-eqb _ _ es, ep, le-ltb _ _ er, le-ltb _ _ l, p, ← ek, ne-eqb _ _ k, ← ez, eq-eqb _ _ h)
 
--- the reply once it is filled up to the frame's length
-pub filled-over : (frame reply part : List ℕ) → length frame ≤ length reply → part ≡ replicate (length (take (length frame - 0) reply)) 255
-    → part ++ drop (length frame - 0) reply ≡ over (silence (length frame)) reply
-unfolding over silence
-filled-over frame reply part h e =
-    let whole : length frame - 0 ≡ length frame = omega arith in
-    rw (e, whole, length-take-le (length frame) reply h, length-replicate)
-
 module _ (n : ℕ) (frame state reply : List ℕ) where
   -- a refusal that changes nothing
   pub untouched : (m : ℕ) → eqb m 0 ≡ false → fills m ≡ false → chainNumber n frame state (length reply) ≡ m
@@ -86,29 +75,16 @@ module _ (n : ℕ) (frame state reply : List ℕ) where
   unfolding chainWord chainState chainReply pick
   untouched m z f e = record { number = sym e; word = rw z; registers = rw z; answered = rw (z, f) }
 
-  -- a refusal that shows silence: the part of the reply up to the frame's length was filled
-  pub silent : (m : ℕ) (part : List ℕ) → eqb m 0 ≡ false → fills m ≡ true → length frame ≤ length reply → part ≡ replicate (length (take (length frame - 0) reply)) 255
-      → chainNumber n frame state (length reply) ≡ m
-      → Serves n frame state reply (record { number = m; word = 0 }) state (part ++ drop (length frame - 0) reply)
+  -- a refusal that shows silence
+  pub silent : (m : ℕ) (r : Heard) (reply′ : List ℕ) → eqb m 0 ≡ false → fills m ≡ true → r .number ≡ m → r .word ≡ 0 → reply′ ≡ over (silence (length frame)) reply
+      → chainNumber n frame state (length reply) ≡ m → Serves n frame state reply r state reply′
   unfolding chainWord chainState chainReply pick
-  silent m part z f h p e = record { number = sym e; word = rw z; registers = rw z; answered = rw (z, f) (filled-over frame reply part h p) }
+  silent m r reply′ z f em ew p e = record { number = em ∙ sym e; word = rw (em, z) ew; registers = rw (em, z); answered = rw (em, z, f) p }
 
-  -- done: `obey` on a reply of silence
+  -- done
   pub done : (kind g word : ℕ) (state′ reply′ : List ℕ) → chainNumber n frame state (length reply) ≡ 0 → kind ≡ kindOf (codeOf frame) → g ≡ groupOf (codeOf frame)
       → word ≡ report n kind frame → state′ ≡ changed n kind g frame state → reply′ ≡ over (answer n kind g frame state) reply
       → Serves n frame state reply (record { number = 0; word = word }) state′ reply′
   unfolding chainWord chainState chainReply pick
   done kind g word state′ reply′ e k eg w s a =
       record { number = sym e; word = rw (← k) w; registers = rw (← k, ← eg) s; answered = rw (← k, ← eg) a }
-
--- what `obey` leaves of a reply of silence is the answer
-pub answer-over : (n kind g : ℕ) (frame state reply laid now : List ℕ) → g < 18 → length state ≡ stateLength n → length frame ≡ frameLength n kind → length frame ≤ length reply
-    → laid ≡ over (silence (length frame)) reply → now ≡ pick (isRead kind) (splice 4 (answers n g state) laid) laid → now ≡ over (answer n kind g frame state) reply
-unfolding answer
-answer-over n kind g frame state reply laid now hg ls lf lr el e = e ∙ rw el (go (eqb kind 2) refl)
-  where
-    go : (b : Bool) → eqb kind 2 ≡ b
-        → pick b (splice 4 (answers n g state) (over (silence (length frame)) reply)) (over (silence (length frame)) reply)
-        ≡ over (pick b (silence 4 ++ answers n g state) (silence (length frame))) reply
-    go true p = unfold pick in over-silence n g state hg ls (length frame) reply (lf ∙ length-long n kind (omega (arith, eqb-true kind 2 p))) lr
-    go false p = unfold pick in refl

@@ -1,9 +1,9 @@
--- What each kind of command does, put together: the word, the state, and the answers laid into the reply; the state stays as long as it was, and bytes,
+-- What each kind of command does, put together: the word, the state, and what is laid over the reply; the state stays as long as it was, and bytes,
 -- pins and the stored DTEN stay; and each device stands alone. Assumes nothing.
 use mathlib.Core.Path.{_≡_, refl, sym, ap, ap₂, _∙_, subst}
 use mathlib.Core.Bool.{Bool, true, false}
 use mathlib.Core.Logic.{_⊎_, inl, inr, ⊎-elim}
-use mathlib.Core.List.{List}
+use mathlib.Core.List.{List, _++_}
 use Prim.Native.Nat.{ℕ, _+_, _-_, _*_, _^_, _≤_, _<_}
 use native.Mathlib.Omega.{arith}
 use borrow.Author.Tests.{eqb-true, eqb-false, ne-eqb, lt-ltb}
@@ -11,46 +11,63 @@ use lib.Dec.{eqb}
 use borrow.Rule.Slice.PartMut.{putMid}
 use lib.ListN.{length, take}
 use Rattle.lent.specs.Bytes.{Bytes}
-use Rattle.lent.specs.Memory.{splice}
+use Rattle.lent.specs.Memory.{over}
 use Rattle.lent.specs.Refusal.{pick}
-use Rattle.lent.proofs.Splice.{splice-put}
 use Rattle.lent.proofs.Tests.{lt-or-le}
 use Rattle.pec.specs.Group.{right}
 use Rattle.frames.specs.Kind.{isWrite, isRead, isClear, frameLength}
 use Rattle.frames.specs.Places.{wire}
-use Rattle.frames.proofs.KindCases.{length-long}
+use Rattle.frames.proofs.KindCases.{length-short, length-long}
 use Rattle.chain.specs.Dten.{dten, withDten}
 use Rattle.chain.specs.State.{stateLength, stored, pin}
-use Rattle.chain.specs.Effect.{answers, written, storedBits, clearCount, cleared, changed, report}
+use Rattle.chain.specs.Effect.{silence, answers, answer, written, storedBits, clearCount, cleared, changed, report}
+use Rattle.chain.proofs.Silence.{silence-more, none-silent, behind-silence}
 use Rattle.chain.proofs.WriteLaws.{length-written, written-other, written-own, written-pin, written-bit, bytes-written}
 use Rattle.chain.proofs.ClearLaws.{length-cleared, cleared-other, cleared-own, cleared-pin, bytes-cleared}
 
-module _ (n kind g : ℕ) (frame state reply : List ℕ) where
-  pub obeyed-write : (word : ℕ) (state′ : List ℕ) → kind ≡ 1 → word ≡ storedBits n n frame → state′ ≡ written n n g frame state
-      → (word ≡ report n kind frame) × (state′ ≡ changed n kind g frame state) × (reply ≡ pick (isRead kind) (splice 4 (answers n g state) reply) reply)
+-- BY THE KIND: `part` is the part of the reply behind the command, and `after` what it became.
+module _ (n kind g : ℕ) (frame state part : List ℕ) (size : length frame ≡ frameLength n kind) (behind : 4 + length part ≡ length frame) where
+  pub obeyed-write : (word : ℕ) (state′ after : List ℕ) → kind ≡ 1 → word ≡ storedBits n n frame → state′ ≡ written n n g frame state → after ≡ silence (8 * n)
+      → (word ≡ report n kind frame) × (state′ ≡ changed n kind g frame state) × (after ≡ pick (isRead kind) (answers n g state) (silence (length part)))
   unfolding report changed pick
-  obeyed-write word state′ e w s = (rw e w, rw e s, rw e)
+  obeyed-write word state′ after e w s p =
+      let long : 8 * n ≡ length part = omega (arith, size ∙ length-long n kind (omega arith)) in
+      (rw e w, rw e s, rw e (p ∙ ap silence long))
 
-  pub obeyed-read : (part : List ℕ) → kind ≡ 2 → length part ≡ 8 * n → part ≡ answers n g state
-      → (0 ≡ report n kind frame) × (state ≡ changed n kind g frame state)
-      × (putMid 4 (4 + 8 * n - 4) reply part ≡ pick (isRead kind) (splice 4 (answers n g state) reply) reply)
+  pub obeyed-read : (after : List ℕ) → kind ≡ 2 → after ≡ answers n g state
+      → (0 ≡ report n kind frame) × (state ≡ changed n kind g frame state) × (after ≡ pick (isRead kind) (answers n g state) (silence (length part)))
   unfolding report changed pick
-  obeyed-read part e long p =
-      (rw e, rw e, rw e (splice-put 4 (4 + 8 * n) part reply (omega arith) ∙ ap (λ (l : List ℕ). splice 4 l reply) p))
+  obeyed-read after e p = (rw e, rw e, rw e p)
+
+  -- a frame that is the command group alone
+  nothing-behind : 2 < kind → part ≡ silence (length part)
+  nothing-behind h = none-silent part (omega (arith, size ∙ length-short n kind h))
 
   pub obeyed-clear : (word : ℕ) (state′ : List ℕ) → kind ≡ 3 → word ≡ 2 ^ n - 1 → state′ ≡ cleared n g (clearCount g) state
-      → (word ≡ report n kind frame) × (state′ ≡ changed n kind g frame state) × (reply ≡ pick (isRead kind) (splice 4 (answers n g state) reply) reply)
+      → (word ≡ report n kind frame) × (state′ ≡ changed n kind g frame state) × (part ≡ pick (isRead kind) (answers n g state) (silence (length part)))
   unfolding report changed pick
-  obeyed-clear word state′ e w s = (rw e w, rw e s, rw e)
+  obeyed-clear word state′ e w s = (rw e w, rw e s, rw e (nothing-behind (omega arith)))
 
   pub obeyed-conversion : (word : ℕ) → 3 < kind → word ≡ 2 ^ n - 1
-      → (word ≡ report n kind frame) × (state ≡ changed n kind g frame state) × (reply ≡ pick (isRead kind) (splice 4 (answers n g state) reply) reply)
+      → (word ≡ report n kind frame) × (state ≡ changed n kind g frame state) × (part ≡ pick (isRead kind) (answers n g state) (silence (length part)))
   unfolding report changed pick
   obeyed-conversion word h w =
       let e1 = ne-eqb kind 1 (λ e. omega arith) in
       let e2 = ne-eqb kind 2 (λ e. omega arith) in
       let e3 = ne-eqb kind 3 (λ e. omega arith) in
-      (rw (e1, lt-ltb 2 kind (omega arith)) w, rw (e1, e3), rw e2)
+      (rw (e1, lt-ltb 2 kind (omega arith)) w, rw (e1, e3), rw e2 (nothing-behind (omega arith)))
+
+-- the reply: four bytes are filled, and the part behind them is obeyed
+pub answered-over : (n kind g behind : ℕ) (frame state reply head after : List ℕ) → head ≡ silence (length (take (4 - 0) reply)) → 4 + behind ≡ length frame
+    → length after ≡ behind → length frame ≤ length reply → after ≡ pick (isRead kind) (answers n g state) (silence behind)
+    → putMid 4 (length frame - 4) (putMid 0 (4 - 0) reply head) after ≡ over (answer n kind g frame state) reply
+unfolding answer
+answered-over n kind g behind frame state reply head after four size long room e =
+    behind-silence (length frame) reply head after four (omega arith) room ∙ ap (λ (l : List ℕ). over l reply) (ap (λ (l : List ℕ). silence 4 ++ l) e ∙ go (isRead kind))
+  where
+    go : (b : Bool) → silence 4 ++ pick b (answers n g state) (silence behind) ≡ pick b (silence 4 ++ answers n g state) (silence (length frame))
+    go true = unfold pick in refl
+    go false = unfold pick in (silence-more 4 behind ∙ ap silence size)
 
 -- WHAT STAYS. What a write and a clear keep, every command keeps.
 module _ (n kind g : ℕ) (frame state : List ℕ) where

@@ -29,7 +29,8 @@ use Rattle.chain.specs.Pins.{withPin, readsCfga, PinShows}
 use Rattle.chain.specs.declared.Heard.{Heard}
 use Rattle.chain.proofs.DtenLaws.{no-dten, dten-with, dten-again, length-withDten}
 use Rattle.chain.proofs.StateLaws.{shown-alike, state-ext, length-stored, length-shown}
-use Rattle.chain.proofs.ClearLaws.{clear-room, length-silence}
+use Rattle.chain.proofs.Silence.{length-silence}
+use Rattle.chain.proofs.ClearLaws.{clear-room}
 use Rattle.chain.proofs.ReadLaws.{length-answered, eight-answers}
 use Rattle.chain.proofs.Obeyed.{length-changed, pin-changed, changed-alike}
 use Rattle.chain.proofs.Accepted.{Accepted, accepted}

@@ -1,16 +1,15 @@
--- A read: the answers one device after the other, where each stands in the reply, and the reply laid over the silence. Assumes nothing.
+-- A read: the answers one device after the other, and where each stands in the reply. Assumes nothing.
 use mathlib.Core.Path.{_≡_, refl, sym, ap, _∙_}
 use mathlib.Core.List.{List, _++_}
 use Prim.Native.Nat.{ℕ, _+_, _*_, _-_, _≤_, _<_}
 use native.Mathlib.Numerals.{add-one}
 use native.Mathlib.Omega.{arith}
-use lib.ListN.{length, getD, take, drop, replicate, length-append, length-replicate, replicate-append-replicate}
+use lib.ListN.{length, getD, take, drop, replicate, length-append}
 use lib.Seq.{drop-drop, drop-at}
 use borrow.Rule.Slice.PartMut.{putMid}
-use Rattle.lent.specs.Memory.{over, splice}
-use Rattle.lent.proofs.Over.{length-over, over-more, over-again}
+use Rattle.lent.specs.Memory.{over}
+use Rattle.lent.proofs.Over.{length-over, over-more}
 use Rattle.lent.proofs.Parts.{length-pieces, piece-at}
-use Rattle.lent.proofs.Splice.{splice-put}
 use Rattle.pec.specs.Group.{withPec}
 use Rattle.pec.proofs.Group.{length-withPec}
 use Rattle.frames.specs.Places.{eight}
@@ -54,15 +53,3 @@ module _ (n g : ℕ) (state : List ℕ) (hg : g < 18) (whole : length state ≡ 
   eight-answers k h =
       ap (take 8) (sym (drop-drop (8 * k) 4 (replicate 4 255 ++ answers n g state)) ∙ ap (drop (8 * k)) (drop-at (replicate 4 255) (answers n g state) 4 refl))
       ∙ piece-at (λ (j : ℕ). answers j g state) (λ (j : ℕ). withPec (shown j g state)) refl (λ j. refl) 8 n answer-long n k (omega arith) h
-
-  -- the answers laid into a reply of silence
-  pub over-silence : (long : ℕ) (reply : List ℕ) → long ≡ 4 + 8 * n → long ≤ length reply
-      → splice 4 (answers n g state) (over (silence long) reply) ≡ over (silence 4 ++ answers n g state) reply
-  unfolding silence
-  over-silence long reply e h =
-      let la : length (answers n g state) ≡ 8 * n = length-answers n (omega arith) in
-      let parts : _≡_ {A = List ℕ} (replicate long 255) (replicate 4 255 ++ replicate (8 * n) 255) =
-      ap (λ (m : ℕ). replicate {A = ℕ} m 255) e ∙ sym (replicate-append-replicate 4 (8 * n) 255) in
-      sym (splice-put 4 long (answers n g state) (over (replicate long 255) reply) (omega arith))
-      ∙ ap (λ (l : List ℕ). putMid 4 (long - 4) (over l reply) (answers n g state)) parts
-      ∙ over-again (replicate 4 255) (answers n g state) (replicate (8 * n) 255) reply 4 long refl (omega arith) (length-replicate {A = ℕ} (8 * n) 255 ∙ sym la) h

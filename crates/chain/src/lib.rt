@@ -2,16 +2,18 @@
 ghost use mathlib.Core.Path.{_≡_};
 ghost use Prim.Native.Nat.{_+_, _-_, _^_, _<_, _≤_};
 ghost use lib.ListN.{length};
-ghost use Rattle.lent.specs.Memory.{splice};
+ghost use Rattle.lent.specs.Memory.{over};
 ghost use Rattle.lent.specs.Refusal.{pick};
 ghost use Rattle.pec.specs.Remainders.{remainders};
 ghost use mathlib.Core.Bool.{false};
 ghost use Rattle.frames.specs.Size.{outside};
 ghost use Rattle.frames.specs.Kind.{isRead, frameLength};
+ghost use Rattle.frames.specs.Commands.{kindOf, groupOf};
 ghost use Rattle.chain.specs.State.{Sound};
-ghost use Rattle.chain.specs.Effect.{answers, clearCount, changed, report};
-ghost use Rattle.chain.specs.Chain.{Serves};
+ghost use Rattle.chain.specs.Effect.{silence, answers, clearCount, changed, report};
+ghost use Rattle.chain.specs.Chain.{codeOf, Serves};
 use frames::commands;
+use frames::commands::Command;
 
 mod clear;
 mod dten;
@@ -34,7 +36,7 @@ fn everyone(n: usize) -> u16
     (above - 1) as u16
 }
 
-// What a good frame does to the state and to a reply of silence, by the kind of its command; the word.
+// What a good frame does to the state, and what its part of the reply behind the command becomes, by the kind of its command; the word.
 fn obey(
     table: &[u16; 256],
     n: usize,
@@ -42,19 +44,18 @@ fn obey(
     group: usize,
     frame: &[u8],
     state: &mut [u8],
-    reply: &mut [u8],
+    part: &mut [u8],
 ) -> u16
-    requires { ⌜ (now table ≡ remainders) × (n ≤ 16) × (0 < kind) × (group < 18) × (kind ≡ 3 → group + clearCount group ≤ 18) × (length (now frame) ≡ frameLength n kind) × Sound n (now state) × (length (now frame) ≤ length (now reply)) ⌝ }
+    requires { ⌜ (now table ≡ remainders) × (n ≤ 16) × (0 < kind) × (group < 18) × (kind ≡ 3 → group + clearCount group ≤ 18) × (length (now frame) ≡ frameLength n kind) × Sound n (now state) × (4 + length (now part) ≡ length (now frame)) ⌝ }
     ensures { λ r. ⌜ (r ≡ report n kind (now (frame .entry)))
         × (now (state .exit) ≡ changed n kind group (now (frame .entry)) (now (state .entry)))
-        × (now (reply .exit) ≡ pick (isRead kind) (splice 4 (answers n group (now (state .entry))) (now (reply .entry))) (now (reply .entry))) ⌝ }
+        × (now (part .exit) ≡ pick (isRead kind) (answers n group (now (state .entry))) (silence (length (now (part .entry))))) ⌝ }
 {
     if kind == commands::WRITE {
-        return write::store_groups(table, n, group, frame, state);
+        return write::store_groups(table, n, group, frame, state, part);
     }
     if kind == commands::READ {
-        let end = 4 + 8 * n;
-        read::put_answers(table, n, group, &state[..], &mut reply[4..end]);
+        read::put_answers(table, n, group, &state[..], part);
         return 0;
     }
     if kind == commands::CLEAR {
@@ -65,32 +66,52 @@ fn obey(
     everyone(n)
 }
 
+// The command that a frame asks for.
+fn asked(frame: &[u8]) -> Command
+    requires { ⌜ 4 ≤ length (now frame) ⌝ }
+    ensures { λ r. ⌜ (r .kind ≡ kindOf (codeOf (now (frame .entry)))) × (r .group ≡ groupOf (codeOf (now (frame .entry)))) ⌝ }
+{
+    let codes = commands::CODES;
+    let kinds = commands::KINDS;
+    let groups = commands::GROUPS;
+    let high = frame[0] as u32;
+    let low = frame[1] as u32;
+    commands::find_in(&codes, &kinds, &groups, high * 256 + low)
+}
+
+// A refusal that shows the silence of the wire, in as many bytes of the reply as the frame has.
+fn refuse(number: u8, count: usize, reply: &mut [u8]) -> Heard
+    requires { ⌜ count ≤ length (now reply) ⌝ }
+    ensures { λ r. ⌜ (r .number ≡ number) × (r .word ≡ 0) × (now (reply .exit) ≡ over (silence count) (now (reply .entry))) ⌝ }
+{
+    lent::fill(&mut reply[0..count], 255);
+    Heard { number, word: 0 }
+}
+
 // What 1 to 16 devices hear of a frame, where the lent state is sound and the reply as long as it has to be.
 fn hear(n: usize, frame: &[u8], state: &mut [u8], reply: &mut [u8]) -> Heard
     requires { ⌜ (outside n ≡ false) × Sound n (now state) × (length (now frame) ≤ length (now reply)) ⌝ }
     ensures { λ r. ⌜ Serves n (now (frame .entry)) (now (state .entry)) (now (reply .entry)) r (now (state .exit)) (now (reply .exit)) ⌝ }
 {
     let length = frame.len();
-    lent::fill(&mut reply[0..length], 255);
     if length < 4 {
-        return Heard { number: 6, word: 0 };
+        return refuse(6, length, reply);
     }
     let table = pec::table();
     if !pec::is_command_right(&table, &frame[0..4]) {
-        return Heard { number: 4, word: 0 };
+        return refuse(4, length, reply);
     }
-    let high = frame[0] as u32;
-    let low = frame[1] as u32;
-    let command = commands::find(high * 256 + low);
+    let command = asked(frame);
     let kind = command.kind;
     if kind == commands::UNKNOWN {
-        return Heard { number: 2, word: 0 };
+        return refuse(2, length, reply);
     }
     if length != frames::writer::frame_length(n, kind) {
-        return Heard { number: 6, word: 0 };
+        return refuse(6, length, reply);
     }
     let group = command.group as usize;
-    let word = obey(&table, n, kind, group, frame, state, reply);
+    lent::fill(&mut reply[0..4], 255);
+    let word = obey(&table, n, kind, group, frame, state, &mut reply[4..length]);
     Heard { number: 0, word }
 }
 

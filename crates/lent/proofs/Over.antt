@@ -59,25 +59,6 @@ over-set new old k v n h =
     let one-more : length (new ++ (v ∷ [])) ≡ suc k = omega (arith, length-append new (v ∷ [])) in
     rw (n, one-more, drop-cons old k 0 h, set-at new (getD old k 0) (drop (suc k) old) v k n) (sym (append-snoc new v (drop (suc k) old)))
 
--- the tail of what was laid over, written anew: the first a bytes stay
-pub over-again : (new tail tail′ old : List ℕ) (a e : ℕ) → length new ≡ a → e ≡ a + length tail → length tail′ ≡ length tail → e ≤ length old
-    → putMid a (e - a) (over (new ++ tail′) old) tail ≡ over (new ++ tail) old
-unfolding over
-over-again new tail tail′ old a e n t t′ h =
-    let size : e - a ≡ length tail = omega arith in
-    let both : length (new ++ tail) ≡ a + length tail = omega (arith, length-append new tail) in
-    let both′ : length (new ++ tail′) ≡ a + length tail = omega (arith, length-append new tail′) in
-    rw (
-      both′,
-      both,
-      size,
-      append-assoc,
-      take-at new (tail′ ++ drop (a + length tail) old) a n,
-      drop-at new (tail′ ++ drop (a + length tail) old) a n,
-      drop-at tail′ (drop (a + length tail) old) (length tail) t′,
-    )
-    (sym (append-assoc new tail (drop (a + length tail) old)))
-
 -- The first `at` bytes are new's, the others what they were: a loop on its way, for a list whose pieces come in the order of the wire.
 unfoldable pub upto : ℕ → List ℕ → List ℕ → List ℕ
 upto at new old = take at new ++ drop at old

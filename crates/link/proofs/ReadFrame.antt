@@ -29,7 +29,7 @@ use Rattle.frames.proofs.GroupLaws.{six-front}
 use Rattle.chain.specs.State.{shown, Sound}
 use Rattle.chain.specs.Effect.{silence, answers, answer, changed, report}
 use Rattle.chain.proofs.StateLaws.{length-shown, bytes-shown}
-use Rattle.chain.proofs.ClearLaws.{length-silence, part-silence}
+use Rattle.chain.proofs.Silence.{length-silence, part-silence}
 use Rattle.chain.proofs.ReadLaws.{length-answered, eight-answers}
 use Rattle.host.specs.Marks.{markOf, bytesOf}
 use Rattle.host.specs.Reader.{allBytes, allMarks, readerBytes, readerMarks}
