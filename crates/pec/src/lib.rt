@@ -3,7 +3,6 @@ ghost use mathlib.Core.Path.{_≡_};
 ghost use Prim.Native.Nat.{_<_};
 ghost use lib.ListN.{length};
 ghost use Rattle.pec.specs.Register.{bits8, feed, pecOf};
-ghost use Rattle.pec.specs.Polynomial.{entryOf};
 ghost use Rattle.pec.specs.Remainders.{remainders};
 ghost use Rattle.pec.specs.Group.{offBy, right};
 ghost use Rattle.pec.specs.Word.{CheckWord};
@@ -275,21 +274,13 @@ pub fn table() -> [u16; 256]
     TABLE
 }
 
-// One entry of the table.
-fn entry(table: &[u16; 256], i: usize) -> u16
-    requires { ⌜ (now table ≡ remainders) × (i < 256) ⌝ }
-    ensures { λ r. ⌜ r ≡ entryOf i ⌝ }
-{
-    table[i]
-}
-
 // The register after one byte more.
 fn turn(table: &[u16; 256], r: u16, byte: u8) -> u16
     requires { ⌜ (now table ≡ remainders) × (r < 32768) ⌝ }
     ensures { λ s. ⌜ (s ≡ feed r (bits8 byte)) × (s < 32768) ⌝ }
 {
     let top = ((r >> 7) as u8) ^ byte;
-    ((r << 8) & 0x7fff) ^ entry(table, top as usize)
+    ((r << 8) & 0x7fff) ^ table[top as usize]
 }
 
 // The check word of the six bytes of a data group. No loop: compilers leave one as it is.
