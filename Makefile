@@ -10,7 +10,7 @@
 # make count-x86-64  how many instructions they take on x86-64, on a machine of any kind (ARGS as for bench)
 # make fuzz      inputs to the C entries as long as one likes (FUZZ=-runs=N: N of them)
 # make fmt       lay out every Rattle, proof and Rust file
-.PHONY: run showlog test test-arm test-powerpc test-x86-64 lib dist install bench count-x86-64 fuzz fmt need second header against printed sanitized manual readme ctest example showlogs entries fuzz_some dist_alone FORCE
+.PHONY: run showlog test test-arm test-powerpc test-x86-64 lib dist install bench count-x86-64 fuzz fmt need second header against printed builds lane-gcc lane-clang sanitized manual readme ctest example showlogs entries fuzz_some dist_alone cost FORCE
 
 PREFIX ?= /usr/local
 VERSION := 3.0.0
@@ -52,7 +52,7 @@ build/controller: $(CONTROLLER) $(wildcard examples/*.h) include/rig.h $(ARCHIVE
 build/showlog: $(SHOWLOG) examples/names.h include/rig.h $(ARCHIVE)
 	@$(C99) $(filter %.c,$^) $(ARCHIVE) -o $@
 
-test: need second header $(if $(ON_X86_64),,test-x86-64) against printed sanitized dist_alone
+test: need second header $(if $(ON_X86_64),,test-x86-64) against printed builds dist_alone cost
 	@echo '== rt ci: prove every crate, try every must-fail edit, run every program'
 	@rt ci
 
@@ -83,8 +83,8 @@ KIT_RLIBS = $(wildcard $(patsubst %/docs/,%,$(dir $(shell rt doc)))/on/$(shell u
 
 build/revision: FORCE
 	@mkdir -p build
-	@git describe --always --abbrev=40 --dirty=', with changes' > $@.new 2> /dev/null || echo 'not known' > $@.new
-	@if cmp -s $@.new $@; then rm $@.new; else mv $@.new $@; fi
+	@said=$$(git describe --always --abbrev=40 --dirty=', with changes' 2> /dev/null || echo 'not known'); \
+	    test "$$said" = "$$(cat $@ 2> /dev/null)" || echo "$$said" > $@
 
 dist: $(RIG_C)
 	@mkdir -p build/dist
@@ -106,8 +106,7 @@ install:
 	install -d '$(DESTDIR)$(PREFIX)/include' '$(DESTDIR)$(PREFIX)/lib/pkgconfig'
 	install -m 644 include/rig.h '$(DESTDIR)$(PREFIX)/include/rig.h'
 	install -m 644 $(LIB) '$(DESTDIR)$(PREFIX)/lib/librig.a'
-	sed -e 's|@PREFIX@|$(abspath $(PREFIX))|' -e 's|@VERSION@|$(VERSION)|' tools/rig.pc.in > build/rig.pc
-	install -m 644 build/rig.pc '$(DESTDIR)$(PREFIX)/lib/pkgconfig/rig.pc'
+	sed -e 's|@PREFIX@|$(abspath $(PREFIX))|' -e 's|@VERSION@|$(VERSION)|' tools/rig.pc.in > '$(DESTDIR)$(PREFIX)/lib/pkgconfig/rig.pc'
 
 # The header compiles alone, as C and as C++, and says what the crates and the archive have.
 header: $(X86_64)
@@ -119,29 +118,34 @@ header: $(X86_64)
 # Every test of a library: the archive, or a build of rig.c.
 against: manual readme ctest example showlogs entries fuzz_some
 
-# rig.c with no warning in C99 and C11, the same bytes when it is printed again, and every test against each of its builds.
+# rig.c with no warning in C99 and C11, and the same bytes when it is printed again.
 printed: $(RIG_C)
 	@echo '== rig.c: no warning as C99 and C11, nothing found by cppcheck, the same bytes when printed again'
 	@for cc in gcc clang; do for std in c99 c11; do $$cc -std=$$std -O2 $(CHECKED) -Wconversion -c $(RIG_C) -o build/c.o || exit 1; done; done
 	@cppcheck --quiet --std=c99 --enable=warning,portability,performance --error-exitcode=1 --suppress=missingIncludeSystem -Iinclude $(RIG_C)
 	@tests/mir2c build/capi.mir include/rig.h target/rlib/*.rlib $(KIT_RLIBS)
 	@rt mir capi 2> build/mir.log | cmp - build/capi.mir
-	@for build in $(BUILDS); do \
-	    echo "== rig.c built by $$build: every test" && \
-	    $(MAKE) --no-print-directory --silent build/c/$$build/librig.a && \
-	    $(MAKE) --no-print-directory --silent against LIB=build/c/$$build/librig.a OUT=build/c/$$build FUZZ_RUNS=200000 > build/c/$$build/log 2>&1 || \
-	    { tail -40 build/c/$$build/log; exit 1; }; \
-	    grep -h -e 'checks, 0 failed' -e 'none failed' -e 'test result' build/c/$$build/log; \
-	done
+
+# Every test against each build of rig.c, in three lanes of which two run at a time. Each lane builds second/ in a folder of its own.
+builds: $(RIG_C) $(SECOND) build/readme.c
+	@$(MAKE) --no-print-directory --silent -j2 lane-gcc lane-clang sanitized
 	@tools/header include/rig.h build/c/gcc-O2/librig.a
+
+WHAT_HELD := grep -h -e 'checks, 0 failed' -e 'none failed' -e 'test result'
+lane-gcc lane-clang: lane-%: $(RIG_C)
+	@for build in $(filter $*-%,$(BUILDS)); do \
+	    $(MAKE) --no-print-directory --silent build/c/$$build/librig.a && \
+	    $(MAKE) --no-print-directory --silent against LIB=build/c/$$build/librig.a OUT=build/c/$$build FUZZ_RUNS=200000 \
+	        CARGO_TARGET_DIR=build/$@ > build/c/$$build/log 2>&1 || { tail -40 build/c/$$build/log; exit 1; }; \
+	    echo "== rig.c built by $$build: every test" && $(WHAT_HELD) build/c/$$build/log; \
+	done
 
 # The search for leaks takes three seconds a program on Arm, and showlog is run some two thousand times: it is left to x86-64.
 sanitized: build/c/sanitized/librig.a
-	@echo '== rig.c under the address and undefined-behaviour sanitizers of clang: every test'
 	@$(if $(ON_X86_64),,ASAN_OPTIONS=detect_leaks=0) $(MAKE) --no-print-directory --silent against LIB=$< OUT=$(<D) FUZZ_RUNS=200000 NO_STACK=--no-stack \
 	    TEST_CC='clang -std=c99 -O1 $(SANITIZE)' FUZZ_CC='clang -std=c99 -g -O1 -fsanitize=fuzzer $(SANITIZE)' \
 	    RUSTFLAGS='-Clinker=clang -Clink-arg=-fsanitize=address,undefined' CARGO_TARGET_DIR=build/sanitized > $(<D)/log 2>&1 || { tail -40 $(<D)/log; exit 1; }
-	@grep -h -e 'checks, 0 failed' -e 'none failed' -e 'test result' $(<D)/log
+	@echo '== rig.c under the address and undefined-behaviour sanitizers of clang: every test' && $(WHAT_HELD) $(<D)/log
 
 # What make dist writes is enough: the example of README.md, the controller and showlog are built of it and of nothing else.
 dist_alone: dist readme
@@ -162,10 +166,10 @@ manual: $(LIB)
 	@echo '== manual: the examples of rig.h run as they stand, as C and as C++, on an installed library'
 	@mkdir -p $(OUT)
 	@$(MAKE) --no-print-directory --silent install PREFIX=$(OUT)/prefix DESTDIR=
-	@sed -n 's/^ \*     \([^ ].*\)$$/\1/p' include/rig.h > build/manual.inc
-	@$(TEST_CC) -Wall -Wextra -Werror -Ibuild -I$(OUT)/prefix/include tests/manual.c -L$(OUT)/prefix/lib -lrig -o $(OUT)/manual
+	@sed -n 's/^ \*     \([^ ].*\)$$/\1/p' include/rig.h > $(OUT)/manual.inc
+	@$(TEST_CC) -Wall -Wextra -Werror -I$(OUT) -I$(OUT)/prefix/include tests/manual.c -L$(OUT)/prefix/lib -lrig -o $(OUT)/manual
 	@$(OUT)/manual
-	@clang -x c++ -std=c++11 $(filter -f%,$(TEST_CC)) -Wall -Wextra -Werror -Ibuild -I$(OUT)/prefix/include tests/manual.c -x none -L$(OUT)/prefix/lib -lrig -o $(OUT)/manual_cpp
+	@clang -x c++ -std=c++11 $(filter -f%,$(TEST_CC)) -Wall -Wextra -Werror -I$(OUT) -I$(OUT)/prefix/include tests/manual.c -x none -L$(OUT)/prefix/lib -lrig -o $(OUT)/manual_cpp
 	@$(OUT)/manual_cpp
 
 # The example of README.md prints what README.md says.
@@ -253,6 +257,12 @@ bench: build/bench/bench
 
 count-x86-64: build/x86-64/bench
 	@bench/count --x86-64 $< '$(ARGS)'
+
+# A chain call costs no more than 1.1 times plain C doing the same: of the archive and of rig.c, counted in instructions, which are the same in every run.
+cost: build/bench/bench $(if $(ON_X86_64),,build/x86-64/bench)
+	@echo '== cost: the instructions of every chain call are at most 1.1 times those of plain C'
+	@bench/count --at-most 1.1 build/bench/bench chain
+	@$(if $(ON_X86_64),,bench/count --at-most 1.1 --x86-64 build/x86-64/bench chain)
 
 build/x86-64/bench: $(wildcard bench/*.c bench/*.h) include/rig.h $(X86_64) $(RIG_C)
 	@x86_64-linux-gnu-gcc -std=c99 -O2 $(CHECKED) -include bench/renamed.h -c $(RIG_C) -o $(@D)/printed.o

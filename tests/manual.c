@@ -1,4 +1,4 @@
-/* manual.c: the examples of rig.h, compiled and run as they stand there. make takes them out to build/manual.inc. */
+/* manual.c: the examples of rig.h, compiled and run as they stand there. make takes them out to manual.inc. */
 #include "rig.h"
 
 #include <stdio.h>
