@@ -8,6 +8,7 @@
 # make install   header, archive and rig.pc for pkg-config under PREFIX (default /usr/local)
 # make bench     how long the entries take beside plain C and beside second/ (ARGS=cells: the rows with that in their name)
 # make count-x86-64  how many instructions they take on x86-64, on a machine of any kind (ARGS as for bench)
+# make cost      fail where a chain call takes more than 1.1 times the instructions of plain C (make test runs it)
 # make fuzz      inputs to the C entries as long as one likes (FUZZ=-runs=N: N of them)
 # make fmt       lay out every Rattle, proof and Rust file
 .PHONY: run showlog test test-arm test-powerpc test-x86-64 lib dist install bench count-x86-64 fuzz fmt need second header against printed builds lane-gcc lane-clang sanitized manual readme ctest example showlogs entries fuzz_some dist_alone cost FORCE
