@@ -3,7 +3,7 @@
 use mathlib.Core.Path.{_≡_, sym, _∙_}
 use mathlib.Core.List.{List}
 use Prim.Native.Nat.{ℕ}
-use Rattle.host.specs.declared.tally.Tally.{Tally}
+use Rattle.tally.specs.declared.Tally.{Tally}
 use Rattle.capi.specs.Lent.{AddsLent}
 
 pub tally-add-determined : (t : Tally) (marks : List ℕ) (r r′ : ℕ) (u u′ : Tally) → AddsLent t marks r u → AddsLent t marks r′ u′ → (r ≡ r′) × (u ≡ u′)

@@ -4,19 +4,19 @@ ghost use Rattle.frames.specs.Conversions.{Builds, TakesApart};
 ghost use Rattle.frames.specs.Writer.{Wrote};
 ghost use Rattle.chain.specs.Chain.{Serves};
 ghost use Rattle.host.specs.Reader.{HandsOut};
-ghost use Rattle.host.specs.Cells.{ReadsCells};
-ghost use Rattle.host.specs.Wake.{Waits};
+ghost use Rattle.cells.specs.Cells.{ReadsCells};
+ghost use Rattle.wake.specs.Wake.{Waits};
 ghost use Rattle.wirelog.specs.Put.{Puts};
 ghost use Rattle.wirelog.specs.Flat.{LaysFlat};
 ghost use Rattle.wirelog.specs.Walk.{Walks};
 ghost use Rattle.capi.specs.Lent.{AddsLent};
+use cells::Readings;
 use chain::Heard;
 use frames::conversions::Code;
 use frames::conversions::Conversion;
-use host::cells::Readings;
-use host::tally::Tally;
-use host::wake::Wake;
 use lent::Written;
+use tally::Tally;
+use wake::Wake;
 use wirelog::flat::FlatRecord;
 use wirelog::walk::Walked;
 
@@ -57,15 +57,15 @@ pub extern "C" fn rig_read(n: u32, code: u32, reply: &[u8], data: &mut [u8], mar
 pub extern "C" fn rig_cells(groups: &[u8], marks: &[u8]) -> Readings
     ensures { λ r. ⌜ ReadsCells (now (groups .entry)) (now (marks .entry)) r ⌝ }
 {
-    host::cells::reading(groups, marks)
+    cells::reading(groups, marks)
 }
 
-// The tally that the controller lends and finds updated: host's step by value, stored back.
+// The tally that the controller lends and finds updated: `tally::add` by value, stored back.
 #[no_mangle]
 pub extern "C" fn rig_tally_add(tally: &mut Tally, marks: &[u8]) -> u8
     ensures { λ r. ⌜ AddsLent (now (tally .entry)) (now (marks .entry)) r (now (tally .exit)) ⌝ }
 {
-    let added = host::tally::add(*tally, marks);
+    let added = tally::add(*tally, marks);
     *tally = added.tally;
     added.number
 }
@@ -75,7 +75,7 @@ pub extern "C" fn rig_tally_add(tally: &mut Tally, marks: &[u8]) -> u8
 pub extern "C" fn rig_wake(n: u32, last: u32, clock: u32) -> Wake
     ensures { λ r. ⌜ Waits n last clock r ⌝ }
 {
-    host::wake::wait(n, last, clock)
+    wake::wait(n, last, clock)
 }
 
 // The code of a conversion command with its fields.

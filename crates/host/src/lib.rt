@@ -1,7 +1,3 @@
-// The host: reader, cells, link tally and wake rule.
-pub mod cells;
-pub mod extremes;
+// The host reader and the marks of a reply.
 pub mod marks;
 pub mod reader;
-pub mod tally;
-pub mod wake;

@@ -23,8 +23,8 @@ use Rattle.pec.proofs.Mask.{unhit-take, unhit-zeros}
 use Rattle.chain.specs.Dten.{withDten}
 use Rattle.chain.specs.State.{pin, shown, Sound}
 use Rattle.host.specs.Marks.{wasRead}
-use Rattle.host.specs.Cells.{countAt, readAt, clearedAt, unmeasuredAt, validAt}
-use Rattle.host.proofs.CellsCases.{each-bit, each-unmeasured}
+use Rattle.cells.specs.Cells.{countAt, readAt, clearedAt, unmeasuredAt, validAt}
+use Rattle.cells.proofs.CellsCases.{each-bit, each-unmeasured}
 use Rattle.link.specs.Rig.{Rig, ours}
 use Rattle.link.specs.Sending.{Sending, kind, group, Fair}
 use Rattle.link.specs.Promise.{lost, missed, sweeps, unread, Reads}

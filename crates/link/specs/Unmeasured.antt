@@ -10,8 +10,8 @@ use Rattle.lent.specs.Refusal.{pick}
 use Rattle.frames.specs.Places.{six}
 use Rattle.chain.specs.State.{Sound}
 use Rattle.host.specs.Marks.{wasRead}
-use Rattle.host.specs.Cells.{ReadsCells}
-use Rattle.host.specs.declared.cells.Readings.{Readings}
+use Rattle.cells.specs.Cells.{ReadsCells}
+use Rattle.cells.specs.declared.Readings.{Readings}
 use Rattle.link.specs.Rig.{Rig}
 use Rattle.link.specs.Sending.{Sending, kind, group, Fair}
 use Rattle.link.specs.Step.{Seen, step}

@@ -12,7 +12,7 @@ fn counts(all: [u16; 18]) {
 }
 
 fn case(groups: &[u8], marks: &[u8]) {
-    let readings = host::cells::reading(groups, marks);
+    let readings = cells::reading(groups, marks);
     let all = readings.counts;
     say::text(b"cells ");
     say::bytes(groups);

@@ -1,5 +1,5 @@
 // The link tally: four counts before, a reply's marks, and the four counts after.
-use host::tally::Tally;
+use tally::Tally;
 
 fn counts(tally: Tally) {
     say::decimal(tally.replies as u64);
@@ -18,7 +18,7 @@ fn case(before: [u32; 4], marks: &[u8]) {
         wrong: before[2],
         silent: before[3],
     };
-    let added = host::tally::add(tally, marks);
+    let added = tally::add(tally, marks);
     let after = added.tally;
     say::text(b"tally ");
     counts(tally);

@@ -1,7 +1,7 @@
 // The wake rule, over a clock that runs past its end.
 
 fn case(n: u32, last: u32, clock: u32) {
-    let wake = host::wake::wait(n, last, clock);
+    let wake = wake::wait(n, last, clock);
     say::text(b"wake ");
     say::decimal(n as u64);
     say::text(b" ");

@@ -1,0 +1,4 @@
+pub mod Room
+pub mod TallyCases
+pub mod Total
+pub mod Determined

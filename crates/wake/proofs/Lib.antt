@@ -1,0 +1,3 @@
+pub mod TrueGap
+pub mod WakeCases
+pub mod Determined

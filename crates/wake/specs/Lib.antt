@@ -1,0 +1,2 @@
+-- What the wake rule promises. Assumes nothing.
+pub mod Wake
