@@ -12,9 +12,9 @@ use Rattle.pec.specs.Group.{right}
 use Rattle.frames.specs.Size.{outside}
 use Rattle.frames.specs.Kind.{frameLength}
 use Rattle.frames.specs.Commands.{kindOf}
-use Rattle.chain.specs.State.{stateLength, pinAbove, Sound}
+use Rattle.registers.specs.State.{stateLength, pinAbove, Sound}
 use Rattle.chain.specs.Chain.{codeOf, chainNumber}
-use Rattle.chain.proofs.StateLaws.{above-none}
+use Rattle.registers.proofs.StateLaws.{above-none}
 
 pub record Accepted (n : ℕ) (frame state : List ℕ) (r : ℕ) : Type 0 where
   pub size : outside n ≡ false

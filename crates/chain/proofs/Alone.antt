@@ -14,14 +14,14 @@ use Rattle.pec.specs.Group.{right}
 use Rattle.frames.specs.Places.{wire}
 use Rattle.frames.specs.Commands.{kindOf, groupOf}
 use Rattle.frames.proofs.Lookup.{group-below}
-use Rattle.chain.specs.State.{stored}
-use Rattle.chain.specs.Effect.{storedBits, changed, report}
+use Rattle.registers.specs.State.{stored}
+use Rattle.registers.specs.Effect.{storedBits, changed, report}
 use Rattle.chain.specs.Chain.{codeOf, chainNumber, chainWord, chainState}
 use Rattle.chain.specs.Alone.{Alone}
 use Rattle.chain.proofs.CodeLaws.{code-alike}
 use Rattle.chain.proofs.Accepted.{Accepted, accepted}
-use Rattle.chain.proofs.ClearLaws.{clear-room}
-use Rattle.chain.proofs.Obeyed.{changed-alike}
+use Rattle.registers.proofs.ClearLaws.{clear-room}
+use Rattle.registers.proofs.Obeyed.{changed-alike}
 use Rattle.chain.proofs.PinLaws.{pins-stay}
 
 -- the number depends on the first four bytes and the length

@@ -1,10 +1,3 @@
-pub mod DtenLaws
-pub mod StateLaws
-pub mod Silence
-pub mod ReadLaws
-pub mod WriteLaws
-pub mod ClearLaws
-pub mod Obeyed
 pub mod Numbers
 pub mod Determined
 pub mod CodeLaws

@@ -12,11 +12,11 @@ use Rattle.pec.specs.Group.{right}
 use Rattle.frames.specs.Size.{outside}
 use Rattle.frames.specs.Kind.{frameLength}
 use Rattle.frames.specs.Commands.{kindOf, groupOf}
-use Rattle.chain.specs.State.{stateLength, pinAbove, Sound}
-use Rattle.chain.specs.Effect.{silence, answer, changed, report}
+use Rattle.registers.specs.State.{stateLength, pinAbove, Sound}
+use Rattle.registers.specs.Effect.{silence, answer, changed, report}
 use Rattle.chain.specs.Chain.{codeOf, chainNumber, fills, chainWord, chainState, chainReply, Serves}
 use Rattle.chain.specs.declared.Heard.{Heard}
-use Rattle.chain.proofs.StateLaws.{none-above}
+use Rattle.registers.proofs.StateLaws.{none-above}
 
 -- Each section takes one test as passed. What the code holds by then (the kind, the frame's length) comes with its meaning.
 module _ (n : ℕ) (frame state : List ℕ) (r : ℕ) where

@@ -10,14 +10,14 @@ use Rattle.lent.specs.Memory.{splice}
 use Rattle.lent.proofs.Pick.{pick-true, pick-false}
 use Rattle.frames.specs.Commands.{kindOf, groupOf}
 use Rattle.frames.proofs.Lookup.{group-below}
-use Rattle.chain.specs.Dten.{dten}
-use Rattle.chain.specs.State.{spot, stored, pin, shown, storing}
-use Rattle.chain.specs.Effect.{changed}
+use Rattle.registers.specs.Dten.{dten}
+use Rattle.registers.specs.State.{spot, stored, pin, shown, storing}
+use Rattle.registers.specs.Effect.{changed}
 use Rattle.chain.specs.Chain.{codeOf, chainState}
 use Rattle.chain.specs.Pins.{PinsStay, OthersPlain}
-use Rattle.chain.proofs.DtenLaws.{no-dten}
-use Rattle.chain.proofs.ClearLaws.{clear-room, clear-high}
-use Rattle.chain.proofs.Obeyed.{pin-changed, bit-changed}
+use Rattle.registers.proofs.DtenLaws.{no-dten}
+use Rattle.registers.proofs.ClearLaws.{clear-room, clear-high}
+use Rattle.registers.proofs.Obeyed.{pin-changed, bit-changed}
 use Rattle.chain.proofs.Accepted.{accepted}
 
 pub pins-stay : PinsStay

@@ -21,18 +21,18 @@ use Rattle.frames.specs.Kind.{isRead}
 use Rattle.frames.specs.Commands.{kindOf, groupOf}
 use Rattle.frames.specs.Places.{eight}
 use Rattle.frames.proofs.Lookup.{group-below}
-use Rattle.chain.specs.Dten.{dten, withDten}
-use Rattle.chain.specs.State.{stateLength, stored, pin, shown, Sound}
-use Rattle.chain.specs.Effect.{silence, answers, answer, changed}
+use Rattle.registers.specs.Dten.{dten, withDten}
+use Rattle.registers.specs.State.{stateLength, stored, pin, shown, Sound}
+use Rattle.registers.specs.Effect.{silence, answers, answer, changed}
 use Rattle.chain.specs.Chain.{codeOf, chainNumber, chainWord, chainState, chainReply, Serves}
 use Rattle.chain.specs.Pins.{withPin, readsCfga, PinShows}
 use Rattle.chain.specs.declared.Heard.{Heard}
-use Rattle.chain.proofs.DtenLaws.{no-dten, dten-with, dten-again, length-withDten}
-use Rattle.chain.proofs.StateLaws.{shown-alike, state-ext, length-stored, length-shown}
-use Rattle.chain.proofs.Silence.{length-silence}
-use Rattle.chain.proofs.ClearLaws.{clear-room}
-use Rattle.chain.proofs.ReadLaws.{length-answered, eight-answers}
-use Rattle.chain.proofs.Obeyed.{length-changed, pin-changed, changed-alike}
+use Rattle.registers.proofs.DtenLaws.{no-dten, dten-with, dten-again, length-withDten}
+use Rattle.registers.proofs.StateLaws.{shown-alike, state-ext, length-stored, length-shown}
+use Rattle.registers.proofs.Silence.{length-silence}
+use Rattle.registers.proofs.ClearLaws.{clear-room}
+use Rattle.registers.proofs.ReadLaws.{length-answered, eight-answers}
+use Rattle.registers.proofs.Obeyed.{length-changed, pin-changed, changed-alike}
 use Rattle.chain.proofs.Accepted.{Accepted, accepted}
 use Rattle.chain.proofs.WithPin.{length-withPin, pin-own, pin-other, stored-withPin, judged-alike}
 use Rattle.chain.proofs.ReplyGroups.{eight-ext, eight-over, eight-own, eight-before, eight-behind, dten-withPec}

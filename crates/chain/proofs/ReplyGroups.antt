@@ -11,7 +11,7 @@ use Rattle.lent.proofs.Splice.{splice-same, splice-before, splice-after}
 use Rattle.pec.specs.Group.{twoBytes, withPec}
 use Rattle.pec.specs.Register.{pecOf}
 use Rattle.frames.specs.Places.{eight}
-use Rattle.chain.specs.Dten.{dten}
+use Rattle.registers.specs.Dten.{dten}
 
 pub eight-ext : (n : ℕ) (x y : List ℕ) → length x ≡ 4 + 8 * n → length y ≡ 4 + 8 * n → take 4 x ≡ take 4 y → ((k : ℕ) → k < n → eight k x ≡ eight k y) → x ≡ y
 unfolding eight

@@ -9,9 +9,9 @@ use borrow.Author.Tests.{eqb-true, eqb-false, le-ltb}
 use lib.Dec.{eqb, ltb}
 use lib.ListN.{length, take, drop, set, length-set}
 use lib.Seq.{getD-set-same, getD-set-other, take-set-le, drop-set-lt, drop-set-add}
-use Rattle.chain.specs.State.{stateLength, spot, pinSpot, stored, pin, pinAbove}
+use Rattle.registers.specs.State.{stateLength, spot, pinSpot, stored, pin, pinAbove}
 use Rattle.chain.specs.Pins.{withPin}
-use Rattle.chain.proofs.StateLaws.{pin-room, pin-apart}
+use Rattle.registers.proofs.StateLaws.{pin-room, pin-apart}
 
 places-differ : (k j : ℕ) → (k ≡ j → ⊥) → pinSpot k ≡ pinSpot j → ⊥
 unfolding pinSpot

@@ -5,7 +5,7 @@ use mathlib.Core.Path.{_≡_}
 use mathlib.Core.List.{List}
 use lib.ListN.{length, take}
 use Rattle.frames.specs.Places.{wire}
-use Rattle.chain.specs.State.{stored, pin}
+use Rattle.registers.specs.State.{stored, pin}
 use Rattle.chain.specs.Chain.{Serves}
 use Rattle.chain.specs.declared.Heard.{Heard}
 

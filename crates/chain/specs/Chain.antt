@@ -11,8 +11,8 @@ use Rattle.pec.specs.Group.{right}
 use Rattle.frames.specs.Size.{outside}
 use Rattle.frames.specs.Kind.{isUnknown, frameLength}
 use Rattle.frames.specs.Commands.{kindOf, groupOf}
-use Rattle.chain.specs.State.{stateLength, pinAbove}
-use Rattle.chain.specs.Effect.{silence, answer, changed, report}
+use Rattle.registers.specs.State.{stateLength, pinAbove}
+use Rattle.registers.specs.Effect.{silence, answer, changed, report}
 use Rattle.chain.specs.declared.Heard.{Heard}
 
 -- The command that a frame asks for. A first byte with any of its top five bits set gives a code that neither a row of the table nor a conversion has.

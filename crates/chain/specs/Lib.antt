@@ -1,7 +1,4 @@
--- The chain: its state, what a good frame does, what the entry promises, that each device stands alone, and what a pin does. Assumes nothing.
-pub mod Dten
-pub mod State
-pub mod Effect
+-- The chain: what the entry promises, that each device stands alone, and what a pin does. Assumes nothing.
 pub mod Chain
 pub mod Alone
 pub mod Pins

@@ -1,6 +1,6 @@
 -- What the DTEN pins do (02, K5): what follows of the chain's statement, for any frame and all that is lent, and of what is shown and stored. Device k of 01 has
 -- the index k - 1 here. Assumes nothing.
-use Prim.Native.Nat.{ℕ, _+_, _*_, _/_, _%_, _≤_, _<_}
+use Prim.Native.Nat.{ℕ, _+_, _*_, _≤_, _<_}
 use mathlib.Core.Path.{_≡_}
 use mathlib.Core.Bool.{Bool, true, _&&_}
 use mathlib.Core.List.{List}
@@ -12,14 +12,10 @@ use Rattle.pec.specs.Group.{withPec}
 use Rattle.frames.specs.Kind.{isRead}
 use Rattle.frames.specs.Commands.{kindOf, groupOf}
 use Rattle.frames.specs.Places.{eight}
-use Rattle.chain.specs.Dten.{dten, withBit, withDten}
-use Rattle.chain.specs.State.{spot, pinSpot, stored, pin, shown, storing}
+use Rattle.registers.specs.Dten.{dten, withDten}
+use Rattle.registers.specs.State.{spot, pinSpot, stored, pin, shown, storing}
 use Rattle.chain.specs.Chain.{codeOf, Serves}
 use Rattle.chain.specs.declared.Heard.{Heard}
-
--- Bit 1 of a byte is put to b, and its other bits are left, 7 to 2 and 0. (The other five bytes of CFGA are not concerned: that makes "the other 47 bits".)
-abbrev pub OneBit : Type 0
-OneBit = (b x : ℕ) → b ≤ 1 → (withBit b x / 2 % 2 ≡ b) × (withBit b x / 4 ≡ x / 4) × (withBit b x % 2 ≡ x % 2)
 
 -- "The stored bit and the pin stay": no frame changes them, obeyed or refused.
 abbrev pub PinsStay : Type 0

@@ -9,17 +9,11 @@ ghost use mathlib.Core.Bool.{false};
 ghost use Rattle.frames.specs.Size.{outside};
 ghost use Rattle.frames.specs.Kind.{isRead, frameLength};
 ghost use Rattle.frames.specs.Commands.{kindOf, groupOf};
-ghost use Rattle.chain.specs.State.{Sound};
-ghost use Rattle.chain.specs.Effect.{silence, answers, clearCount, changed, report};
+ghost use Rattle.registers.specs.State.{Sound};
+ghost use Rattle.registers.specs.Effect.{silence, answers, clearCount, changed, report};
 ghost use Rattle.chain.specs.Chain.{codeOf, Serves};
 use frames::commands;
 use frames::commands::Command;
-
-mod clear;
-mod dten;
-mod read;
-mod state;
-mod write;
 
 #[repr(C)]
 pub struct Heard {
@@ -52,14 +46,14 @@ fn obey(
         × (now (part .exit) ≡ pick (isRead kind) (answers n group (now (state .entry))) (silence (length (now (part .entry))))) ⌝ }
 {
     if kind == commands::WRITE {
-        return write::store_groups(table, n, group, frame, state, part);
+        return registers::write::store_groups(table, n, group, frame, state, part);
     }
     if kind == commands::READ {
-        read::put_answers(table, n, group, &state[..], part);
+        registers::read::put_answers(table, n, group, &state[..], part);
         return 0;
     }
     if kind == commands::CLEAR {
-        clear::clear_groups(n, group, state);
+        registers::clear::clear_groups(n, group, state);
         return everyone(n);
     }
     // A conversion: every device obeys, and no register changes.
@@ -123,10 +117,10 @@ pub fn serve(n: u32, frame: &[u8], state: &mut [u8], reply: &mut [u8]) -> Heard
     if frames::size::outside(devices) {
         return Heard { number: 1, word: 0 };
     }
-    if state.len() != state::state_length(devices) {
+    if state.len() != registers::state::state_length(devices) {
         return Heard { number: 3, word: 0 };
     }
-    if state::pin_above(devices, state) {
+    if registers::state::pin_above(devices, state) {
         return Heard { number: 3, word: 0 };
     }
     if reply.len() < frame.len() {

@@ -21,8 +21,8 @@ use Rattle.frames.specs.Writer.{writerNumber}
 use Rattle.frames.proofs.Sizes as Sizes
 use Rattle.frames.proofs.KindCases.{length-least}
 use Rattle.frames.proofs.FrameParts.{makes, length-frame, frame-out, take-frame, bytes-command}
-use Rattle.chain.specs.State.{Sound}
-use Rattle.chain.specs.Effect.{silence, answer, changed, report}
+use Rattle.registers.specs.State.{Sound}
+use Rattle.registers.specs.Effect.{silence, answer, changed, report}
 use Rattle.chain.specs.Chain.{codeOf, fills, chainWord, chainState, chainReply}
 use Rattle.chain.proofs.CodeLaws.{code-of}
 use Rattle.chain.proofs.Numbers.{number-4, number-0}

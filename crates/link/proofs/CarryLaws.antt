@@ -2,7 +2,7 @@
 use mathlib.Core.Path.{_≡_, sym, ap, _∙_, subst}
 use mathlib.Core.List.{List, [], _∷_}
 use Prim.Native.Nat.{ℕ}
-use Rattle.chain.proofs.StateLaws.{still-sound}
+use Rattle.registers.proofs.StateLaws.{still-sound}
 use Rattle.link.specs.Rig.{ours}
 use Rattle.link.specs.Sending.{Sending}
 use Rattle.link.specs.Step.{Seen, step}

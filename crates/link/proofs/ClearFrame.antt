@@ -12,9 +12,9 @@ use Rattle.lent.specs.Refusal.{pick}
 use Rattle.frames.specs.Commands.{Row, rows, found, kindOf, groupOf}
 use Rattle.lent.proofs.Tests.{each-below}
 use Rattle.frames.proofs.Lookup.{every, looked-up, found-code}
-use Rattle.chain.specs.State.{shown, Sound}
-use Rattle.chain.specs.Effect.{silence, clearCount, cleared, changed, report}
-use Rattle.chain.proofs.ClearLaws.{clear-room, clear-high, shown-own, shown-other}
+use Rattle.registers.specs.State.{shown, Sound}
+use Rattle.registers.specs.Effect.{silence, clearCount, cleared, changed, report}
+use Rattle.registers.proofs.ClearLaws.{clear-room, clear-high, shown-own, shown-other}
 use Rattle.link.specs.Rig.{ours}
 use Rattle.link.specs.Sending.{Sending, kind, group, Fair}
 use Rattle.link.specs.Step.{step}

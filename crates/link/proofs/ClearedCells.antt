@@ -20,8 +20,8 @@ use Rattle.frames.specs.Places.{six}
 use Rattle.frames.proofs.Lookup.{every, looked-up}
 use Rattle.frames.proofs.KindCases.{needs-none}
 use Rattle.pec.proofs.Mask.{unhit-take, unhit-zeros}
-use Rattle.chain.specs.Dten.{withDten}
-use Rattle.chain.specs.State.{pin, shown, Sound}
+use Rattle.registers.specs.Dten.{withDten}
+use Rattle.registers.specs.State.{pin, shown, Sound}
 use Rattle.host.specs.Marks.{wasRead}
 use Rattle.cells.specs.Cells.{countAt, readAt, clearedAt, unmeasuredAt, validAt}
 use Rattle.cells.proofs.CellsCases.{each-bit, each-unmeasured}

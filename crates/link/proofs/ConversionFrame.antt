@@ -4,8 +4,8 @@ use mathlib.Core.Bool.{Bool, true, false}
 use mathlib.Core.List.{List}
 use Prim.Native.Nat.{ℕ, _-_, _^_, _≤_}
 use Rattle.lent.specs.Refusal.{pick}
-use Rattle.chain.specs.State.{Sound}
-use Rattle.chain.specs.Effect.{changed, report}
+use Rattle.registers.specs.State.{Sound}
+use Rattle.registers.specs.Effect.{changed, report}
 use Rattle.link.specs.Rig.{ours}
 use Rattle.link.specs.Sending.{Sending, kind, Fair}
 use Rattle.link.specs.Step.{step}

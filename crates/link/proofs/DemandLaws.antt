@@ -21,9 +21,9 @@ use Rattle.frames.specs.Places.{six, wire, eight}
 use Rattle.frames.proofs.Lookup.{group-below}
 use Rattle.frames.proofs.Sizes.{at-least, at-most}
 use Rattle.frames.proofs.FrameParts as FrameParts
-use Rattle.chain.specs.Dten.{withDten}
-use Rattle.chain.specs.State.{pin, shown, Sound}
-use Rattle.chain.specs.Effect.{storedBits}
+use Rattle.registers.specs.Dten.{withDten}
+use Rattle.registers.specs.State.{pin, shown, Sound}
+use Rattle.registers.specs.Effect.{storedBits}
 use Rattle.host.specs.Reader.{allBytes, allMarks}
 use Rattle.host.proofs.ReaderLaws.{length-allMarks}
 use Rattle.link.specs.Rig.{ours}

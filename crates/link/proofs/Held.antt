@@ -8,10 +8,10 @@ use lib.ListN.{length}
 use Rattle.lent.proofs.Parts.{length-pieces, piece-at, pieces-ext}
 use Rattle.frames.specs.Places.{six}
 use Rattle.frames.proofs.GroupLaws.{length-six}
-use Rattle.chain.specs.Dten.{withDten}
-use Rattle.chain.specs.State.{stateLength, pin, shown}
-use Rattle.chain.proofs.DtenLaws.{length-withDten, no-dten}
-use Rattle.chain.proofs.StateLaws.{length-shown}
+use Rattle.registers.specs.Dten.{withDten}
+use Rattle.registers.specs.State.{stateLength, pin, shown}
+use Rattle.registers.proofs.DtenLaws.{length-withDten, no-dten}
+use Rattle.registers.proofs.StateLaws.{length-shown}
 use Rattle.link.specs.Demands.{held, readBack}
 
 pub six-ext : (n : ℕ) (x y : List ℕ) → length x ≡ 6 * n → length y ≡ 6 * n → ((k : ℕ) → k < n → six k x ≡ six k y) → x ≡ y

@@ -13,11 +13,11 @@ use Rattle.pec.proofs.Mask.{bytes-noisy, unhit-same, unhit-zeros}
 use Rattle.frames.specs.Kind.{frameLength}
 use Rattle.frames.proofs.Lookup.{kind-below, group-below}
 use Rattle.frames.proofs.FrameParts.{bytes-frame}
-use Rattle.chain.specs.Dten.{dten}
-use Rattle.chain.specs.State.{stateLength, stored, pin, Sound}
-use Rattle.chain.proofs.StateLaws.{still-sound}
-use Rattle.chain.proofs.ClearLaws.{clear-room, clear-high}
-use Rattle.chain.proofs.Obeyed.{length-changed, pin-changed, bit-changed, bytes-changed}
+use Rattle.registers.specs.Dten.{dten}
+use Rattle.registers.specs.State.{stateLength, stored, pin, Sound}
+use Rattle.registers.proofs.StateLaws.{still-sound}
+use Rattle.registers.proofs.ClearLaws.{clear-room, clear-high}
+use Rattle.registers.proofs.Obeyed.{length-changed, pin-changed, bit-changed, bytes-changed}
 use Rattle.host.specs.Reader.{readerBytes, readerMarks}
 use Rattle.host.proofs.ReaderNumbers.{number-7}
 use Rattle.link.specs.Rig.{Served, Handed, ours}

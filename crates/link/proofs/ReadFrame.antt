@@ -26,11 +26,11 @@ use Rattle.frames.specs.Places.{six, eight}
 use Rattle.frames.proofs.Lookup.{group-below}
 use Rattle.frames.proofs.KindCases.{length-long}
 use Rattle.frames.proofs.GroupLaws.{six-front}
-use Rattle.chain.specs.State.{shown, Sound}
-use Rattle.chain.specs.Effect.{silence, answers, answer, changed, report}
-use Rattle.chain.proofs.StateLaws.{length-shown, bytes-shown}
-use Rattle.chain.proofs.Silence.{length-silence, part-silence}
-use Rattle.chain.proofs.ReadLaws.{length-answered, eight-answers}
+use Rattle.registers.specs.State.{shown, Sound}
+use Rattle.registers.specs.Effect.{silence, answers, answer, changed, report}
+use Rattle.registers.proofs.StateLaws.{length-shown, bytes-shown}
+use Rattle.registers.proofs.Silence.{length-silence, part-silence}
+use Rattle.registers.proofs.ReadLaws.{length-answered, eight-answers}
 use Rattle.host.specs.Marks.{markOf, bytesOf}
 use Rattle.host.specs.Reader.{allBytes, allMarks, readerBytes, readerMarks}
 use Rattle.host.proofs.MarkLaws.{all-silent, mark-silent, bytes-read, bytes-none, read-if-right, right-if-read}

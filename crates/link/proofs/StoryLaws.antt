@@ -14,9 +14,9 @@ use Rattle.lent.proofs.BitsWhere.{bits-ext}
 use Rattle.lent.proofs.Pick.{pick-false, pick-not}
 use Rattle.frames.specs.Places.{six}
 use Rattle.frames.proofs.Lookup.{group-below}
-use Rattle.chain.specs.Dten.{dten, withDten}
-use Rattle.chain.specs.State.{stored, pin, shown, Sound}
-use Rattle.chain.proofs.StateLaws.{stored-alike, state-ext, still-sound}
+use Rattle.registers.specs.Dten.{dten, withDten}
+use Rattle.registers.specs.State.{stored, pin, shown, Sound}
+use Rattle.registers.proofs.StateLaws.{stored-alike, state-ext, still-sound}
 use Rattle.link.specs.Rig.{Rig, ours}
 use Rattle.link.specs.Sending.{Sending, kind, group, Fair}
 use Rattle.link.specs.Step.{Seen, step}

@@ -21,11 +21,11 @@ use Rattle.frames.proofs.Lookup.{group-below}
 use Rattle.frames.proofs.KindCases.{needs-data, length-long}
 use Rattle.frames.proofs.GroupLaws.{length-six}
 use Rattle.frames.proofs.FrameParts.{wire-frame, bytes-six}
-use Rattle.chain.specs.Dten.{withDten}
-use Rattle.chain.specs.State.{pin, shown, Sound}
-use Rattle.chain.specs.Effect.{written, storedBits, changed, report}
-use Rattle.chain.proofs.StateLaws.{shown-alike}
-use Rattle.chain.proofs.WriteLaws.{length-wire, written-other, written-pin, written-shown}
+use Rattle.registers.specs.Dten.{withDten}
+use Rattle.registers.specs.State.{pin, shown, Sound}
+use Rattle.registers.specs.Effect.{written, storedBits, changed, report}
+use Rattle.registers.proofs.StateLaws.{shown-alike}
+use Rattle.registers.proofs.WriteLaws.{length-wire, written-other, written-pin, written-shown}
 use Rattle.link.specs.Rig.{ours}
 use Rattle.link.specs.Sending.{Sending, kind, group, Fair}
 use Rattle.link.specs.Step.{frame, arrives, step}

@@ -21,9 +21,9 @@ use Rattle.frames.specs.Commands.{rows, found, kindOf, groupOf}
 use Rattle.frames.specs.Places.{six, eight}
 use Rattle.frames.specs.Frame.{frameBody, frameOf}
 use Rattle.frames.specs.Writer.{writerNumber, writerLength, writerOut}
-use Rattle.chain.specs.Dten.{withBit, withDten}
-use Rattle.chain.specs.State.{stateLength, spot, pinSpot, stored, pin, shown, pinAbove, Sound}
-use Rattle.chain.specs.Effect.{silence, answers, answer}
+use Rattle.registers.specs.Dten.{withBit, withDten}
+use Rattle.registers.specs.State.{stateLength, spot, pinSpot, stored, pin, shown, pinAbove, Sound}
+use Rattle.registers.specs.Effect.{silence, answers, answer}
 use Rattle.chain.specs.Chain.{codeOf, chainNumber, fills, chainReply}
 use Rattle.host.specs.Marks.{silent}
 use Rattle.host.specs.Reader.{readerNumber}

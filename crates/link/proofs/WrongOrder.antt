@@ -18,9 +18,9 @@ use Rattle.frames.specs.Commands.{rows, found, kindOf, groupOf}
 use Rattle.frames.specs.Places.{six, wire}
 use Rattle.frames.specs.Frame.{writeGroups, frameBody, frameOf}
 use Rattle.frames.specs.Writer.{writerNumber, writerLength, writerOut}
-use Rattle.chain.specs.Dten.{dten, withBit, withDten}
-use Rattle.chain.specs.State.{stateLength, spot, pinSpot, stored, pin, shown, storing, pinAbove}
-use Rattle.chain.specs.Effect.{written, changed}
+use Rattle.registers.specs.Dten.{dten, withBit, withDten}
+use Rattle.registers.specs.State.{stateLength, spot, pinSpot, stored, pin, shown, storing, pinAbove}
+use Rattle.registers.specs.Effect.{written, changed}
 use Rattle.chain.specs.Chain.{codeOf, chainNumber, chainState}
 use Rattle.link.specs.Rig.{Rig, ours}
 use Rattle.link.specs.Sending.{Sending, Fair}

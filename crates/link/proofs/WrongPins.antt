@@ -17,9 +17,9 @@ use Rattle.frames.specs.Commands.{rows, found, kindOf, groupOf}
 use Rattle.frames.specs.Places.{six, wire, eight}
 use Rattle.frames.specs.Frame.{writeGroups, frameBody, frameOf}
 use Rattle.frames.specs.Writer.{writerNumber, writerLength, writerOut}
-use Rattle.chain.specs.Dten.{dten, withBit, withDten}
-use Rattle.chain.specs.State.{stateLength, spot, pinSpot, stored, pin, shown, storing, pinAbove}
-use Rattle.chain.specs.Effect.{silence, answers, answer, written, changed}
+use Rattle.registers.specs.Dten.{dten, withBit, withDten}
+use Rattle.registers.specs.State.{stateLength, spot, pinSpot, stored, pin, shown, storing, pinAbove}
+use Rattle.registers.specs.Effect.{silence, answers, answer, written, changed}
 use Rattle.chain.specs.Chain.{codeOf, chainNumber, chainState, chainReply}
 use Rattle.host.specs.Marks.{silent, markOf, bytesOf}
 use Rattle.host.specs.Reader.{allBytes, readerNumber, readerBytes}

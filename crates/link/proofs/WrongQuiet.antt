@@ -11,8 +11,8 @@ use Rattle.frames.specs.Kind.{frameLength}
 use Rattle.frames.specs.Commands.{rows, found, kindOf, groupOf}
 use Rattle.frames.specs.Places.{six}
 use Rattle.frames.proofs.KindCases.{needs-data}
-use Rattle.chain.specs.Dten.{withBit, withDten}
-use Rattle.chain.specs.State.{spot, pinSpot, stored, pin, shown}
+use Rattle.registers.specs.Dten.{withBit, withDten}
+use Rattle.registers.specs.State.{spot, pinSpot, stored, pin, shown}
 use Rattle.link.specs.Rig.{Rig}
 use Rattle.link.specs.Sending.{Sending, kind, group, Fair}
 use Rattle.link.specs.Step.{hands, step}

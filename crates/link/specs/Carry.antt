@@ -4,7 +4,7 @@ use mathlib.Core.Path.{_≡_}
 use mathlib.Core.List.{List, [], _∷_}
 use Rattle.lent.specs.Bytes.{Bytes}
 use Rattle.lent.specs.Memory.{over}
-use Rattle.chain.specs.State.{Sound}
+use Rattle.registers.specs.State.{Sound}
 use Rattle.link.specs.Rig.{ours}
 use Rattle.link.specs.Sending.{Sending}
 use Rattle.link.specs.Step.{Seen, arrives, serves, returns, step}

@@ -9,8 +9,8 @@ use Rattle.lent.specs.Memory.{over}
 use Rattle.lent.specs.Refusal.{pick}
 use Rattle.pec.specs.Noise.{hit}
 use Rattle.frames.specs.Places.{six}
-use Rattle.chain.specs.Dten.{dten, withDten}
-use Rattle.chain.specs.State.{stateLength, stored, pin, shown, Sound}
+use Rattle.registers.specs.Dten.{dten, withDten}
+use Rattle.registers.specs.State.{stateLength, stored, pin, shown, Sound}
 use Rattle.link.specs.Rig.{Rig}
 use Rattle.link.specs.Sending.{Sending, kind, group, Fair}
 use Rattle.link.specs.Step.{Seen, step}

@@ -10,8 +10,8 @@ use Rattle.lent.specs.Bytes.{Bytes}
 use Rattle.lent.specs.Refusal.{pick}
 use Rattle.pec.specs.Noise.{hit}
 use Rattle.frames.specs.Places.{six, wire, eight}
-use Rattle.chain.specs.Dten.{dten, withDten}
-use Rattle.chain.specs.State.{stateLength, stored, pin, shown}
+use Rattle.registers.specs.Dten.{dten, withDten}
+use Rattle.registers.specs.State.{stateLength, stored, pin, shown}
 use Rattle.link.specs.Rig.{Rig}
 use Rattle.link.specs.Sending.{Sending, kind, group}
 use Rattle.link.specs.Step.{Seen, step, calm}

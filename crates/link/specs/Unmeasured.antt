@@ -8,7 +8,7 @@ use lib.ListN.{getD}
 use Rattle.lent.specs.Bytes.{Bytes}
 use Rattle.lent.specs.Refusal.{pick}
 use Rattle.frames.specs.Places.{six}
-use Rattle.chain.specs.State.{Sound}
+use Rattle.registers.specs.State.{Sound}
 use Rattle.host.specs.Marks.{wasRead}
 use Rattle.cells.specs.Cells.{ReadsCells}
 use Rattle.cells.specs.declared.Readings.{Readings}

@@ -2,7 +2,7 @@
 use native.Mathlib.Omega.{arith}
 use borrow.Author.Needs.{needs}
 use lib.Pow.{pow-pos}
-use Rattle.chain.proofs.WriteLaws.{pow-most}
+use Rattle.registers.proofs.WriteLaws.{pow-most}
 use Rattle.chain.proofs.everyone.Statement.{statement}
 use Rattle.chain.proofs.everyone.Tie as tie
 

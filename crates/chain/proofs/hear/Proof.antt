@@ -8,10 +8,10 @@ use lib.ListN.{take}
 use Rattle.pec.specs.Group.{right}
 use Rattle.frames.proofs.Lookup.{group-below}
 use Rattle.frames.proofs.Sizes.{at-most}
-use Rattle.chain.specs.Effect.{silence}
+use Rattle.registers.specs.Effect.{silence}
 use Rattle.chain.specs.Chain.{codeOf, fills}
-use Rattle.chain.proofs.ClearLaws.{clear-room}
-use Rattle.chain.proofs.Obeyed.{answered-over}
+use Rattle.registers.proofs.ClearLaws.{clear-room}
+use Rattle.registers.proofs.Obeyed.{answered-over}
 use Rattle.chain.proofs.Numbers.{number-6, number-4, number-2, number-6-length, number-0, silent, done}
 use Rattle.chain.proofs.hear.Statement.{statement}
 use Rattle.chain.proofs.hear.Tie as tie

@@ -3,7 +3,7 @@ use mathlib.Core.Path.{_∙_}
 use native.Mathlib.Omega.{arith}
 use borrow.Author.Needs.{needs}
 use Rattle.frames.proofs.KindCases.{length-long}
-use Rattle.chain.proofs.Obeyed.{obeyed-write, obeyed-read, obeyed-clear, obeyed-conversion}
+use Rattle.registers.proofs.Obeyed.{obeyed-write, obeyed-read, obeyed-clear, obeyed-conversion}
 use Rattle.chain.proofs.obey.Statement.{statement}
 use Rattle.chain.proofs.obey.Tie as tie
 

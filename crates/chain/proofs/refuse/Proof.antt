@@ -1,8 +1,8 @@
 -- `chain::refuse` fills the first bytes of the reply. Assumes nothing.
 use mathlib.Core.Path.{refl}
 use borrow.Author.Needs.{needs}
-use Rattle.chain.specs.Effect.{silence}
-use Rattle.chain.proofs.Silence.{silence-over}
+use Rattle.registers.specs.Effect.{silence}
+use Rattle.registers.proofs.Silence.{silence-over}
 use Rattle.chain.proofs.refuse.Statement.{statement}
 use Rattle.chain.proofs.refuse.Tie as tie
 

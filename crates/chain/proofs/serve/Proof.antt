@@ -4,9 +4,9 @@ use mathlib.Core.Bool.{false}
 use borrow.Author.Needs.{needs}
 use Rattle.frames.specs.Size.{outside}
 use Rattle.frames.proofs.Sizes.{at-most}
-use Rattle.chain.specs.State.{Sound}
+use Rattle.registers.specs.State.{Sound}
 use Rattle.chain.specs.Chain.{fills}
-use Rattle.chain.proofs.StateLaws.{above-none}
+use Rattle.registers.proofs.StateLaws.{above-none}
 use Rattle.chain.proofs.Numbers.{number-1, number-3, number-3-pin, number-5, untouched}
 use Rattle.chain.proofs.serve.Statement.{statement}
 use Rattle.chain.proofs.serve.Tie as tie
