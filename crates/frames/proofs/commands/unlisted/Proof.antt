@@ -1,6 +1,5 @@
 -- `frames::commands::unlisted`: by what taking the code apart says. Assumes nothing.
 use mathlib.Core.Path.{ap, sym}
-use Prim.Native.Nat.{ℕ}
 use borrow.Author.Needs.{needs}
 use Rattle.frames.specs.Commands.{Row}
 use Rattle.frames.proofs.Lookup.{asked, unknown}
