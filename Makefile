@@ -69,7 +69,7 @@ $(ARCHIVE): $(if $(ON_X86_64),$(X86_64),build/c/gcc-O2/librig.a)
 $(X86_64): $(SOURCES) | need
 	@echo '== archive: prove what it holds, and compile it for x86-64'
 	@mkdir -p $(@D)
-	@bash -o pipefail -c 'rt staticlib capi 2>&1 | tee build/lib.log | grep --line-buffered "^rt:"' || { tail -40 build/lib.log; exit 1; }
+	@bash -o pipefail -c '{ rt check capi && rt staticlib capi; } 2>&1 | tee build/lib.log | grep --line-buffered "^rt:" | grep --line-buffered -v unchanged' || { tail -40 build/lib.log; exit 1; }
 	@cp target/staticlib/libcapi.a $@
 
 # The proved MIR as C99. Every function that is printed, and every type, is held to the MIR of its proved crate.
