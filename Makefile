@@ -259,7 +259,7 @@ bench: build/bench/bench
 count-x86-64: build/x86-64/bench
 	@bench/count --x86-64 $< '$(ARGS)'
 
-# A chain call costs no more than 1.1 times plain C doing the same: of the archive and of rig.c, counted in instructions, which are the same in every run.
+# The instructions of a chain call, of the archive and of rig.c, beside those of plain C: they are the same in every run, and times are not (docs/BENCH.md).
 cost: build/bench/bench $(if $(ON_X86_64),,build/x86-64/bench)
 	@echo '== cost: the instructions of every chain call are at most 1.1 times those of plain C'
 	@bench/count --at-most 1.1 build/bench/bench chain
