@@ -1,0 +1,2 @@
+-- What a digit is; of what is printed nothing can be promised. Assumes nothing.
+pub mod Digits
