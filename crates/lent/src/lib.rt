@@ -1,4 +1,6 @@
 // Work on lent bytes.
+#![tactic(auto)]
+
 ghost use Rattle.std.specs.Prelude.{◌≡◌, ◌+◌, ◌≤◌, length, replicate};
 ghost use Rattle.lent.specs.LowFirst.{low_first_at, number_of};
 ghost use Rattle.lent.specs.Memory.{over};
