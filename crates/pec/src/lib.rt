@@ -1,4 +1,6 @@
 // The check word PEC15 of bytes, by a table of 256 remainders, and the check of a group by it.
+#![tactic(auto)]
+
 ghost use Rattle.std.specs.Prelude.{◌≡◌, ◌<◌, length, set};
 ghost use Rattle.pec.specs.Register.{bits8, feed, pec_of};
 ghost use Rattle.pec.specs.Remainders.{remainders};
