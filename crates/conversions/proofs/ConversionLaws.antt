@@ -154,13 +154,8 @@ ready p f b t =
 pub read_ready : (p : Pattern) (f : Fields) (code : ℕ) → Bounds p → f ≡ fields_by p code
     → (p.base < 2048) × (f.mode < 4) × (f.discharge < 2) × (f.pull_up < 2) × (f.choice < 8)
 unfolding fields_by choice_in
-read_ready p f code b e = rw e (omega (arith, b.top), omega arith, one p.dcp (code / 0x10) b.dcp, one p.pup (code / 0x40) b.pup, chosen (eqb p.sort 2) (eqb p.sort 1))
+read_ready p f code b e = rw e (omega (arith, b.top), omega arith, bit_times p.dcp _ b.dcp (omega arith), bit_times p.pup _ b.pup (omega arith), chosen (eqb p.sort 2) (eqb p.sort 1))
   where
-    one : (a x : ℕ) → a < 2 → a * (x % 2) < 2
-    one zero x h = omega arith
-    one (suc zero) x h = omega arith
-    one (suc (suc a)) x h = absurd (omega arith)
-
     chosen : (s t : Bool) → pick s (code / 0x20 % 4) (pick t (code % 8) 0) < 8
     chosen true t = unfold pick in omega arith
     chosen false true = unfold pick in omega arith

@@ -1,4 +1,6 @@
 // The conversion commands of document 002: a code built from command and fields, and a code taken apart.
+#![tactic(auto)]
+
 ghost use Rattle.std.specs.Prelude.{◌≡◌, ◌<◌, ◌-◌, ◌≤◌};
 ghost use Rattle.conversions.specs.Conversions.{pattern_at, within, weighed, code_by, choice_in, fields_by, fits, seek, command_of, Builds, TakesApart};
 ghost use Rattle.conversions.specs.Packed.{packed_patterns};
@@ -21,7 +23,7 @@ const PATTERNS: [u32; 13] = [
     0x46710000, // ADCVSC
 ];
 
-#[derive(Drop)]
+#[derive(Clone, Copy)]
 pub struct Pattern {
     pub base: u32,
     pub dcp: u32,
@@ -31,7 +33,7 @@ pub struct Pattern {
     pub most: u32,
 }
 
-#[derive(Drop)]
+#[derive(Clone, Copy)]
 pub struct Fields {
     pub mode: u32,
     pub discharge: u32,
