@@ -5,13 +5,13 @@ use Rattle.wirelog.proofs.FoundLaws.{at_end, past_end, not_whole, whole, gives_u
 use Rattle.wirelog.proofs.record.record_at.Goals as goal
 
 pub returns-then-place-log : goal.returns-then-place-log
-returns-then-place-log c = record { found = sym (at_end _ _ c.if-place-log.true) }
+returns-then-place-log c = record { found = sym (at_end _ _ (omega arith)) }
 
 pub returns-then-log-place : goal.returns-then-log-place
 returns-then-log-place c = record { found = sym (past_end _ _ c.if-log-place.true) }
 
 pub returns-then-not-is_whole : goal.returns-then-not-is_whole
-returns-then-not-is_whole c = record { found = sym (not_whole _ _ c.if-place-log.false (sym c.if-not-is_whole.ensures)) }
+returns-then-not-is_whole c = record { found = sym (not_whole _ _ (λ e. omega arith) (sym c.if-not-is_whole.ensures)) }
 
 pub low_first-counted-requires : goal.low_first-counted-requires
 low_first-counted-requires c =
@@ -30,7 +30,7 @@ pub returns-then-not-is_known : goal.returns-then-not-is_known
 unfolding kind_at length_at
 returns-then-not-is_known c =
     let w = sym c.if-not-is_whole.ensures in
-    gives_unknown _ _ _ _ c.if-place-log.false w c.low_first-kind.ensures c.low_first-counted.ensures
+    gives_unknown _ _ _ _ (λ e. omega arith) w c.low_first-kind.ensures c.low_first-counted.ensures
     (sym c.if-not-is_known.ensures)
 
 pub slice_bounds-is_within-count : goal.slice_bounds-is_within-count
@@ -53,7 +53,7 @@ pub returns-then-not-is_within : goal.returns-then-not-is_within
 unfolding kind_at length_at
 returns-then-not-is_within c =
     let w = sym c.if-not-is_whole.ensures in
-    gives_limits _ _ _ _ c.if-place-log.false w c.low_first-kind.ensures c.low_first-counted.ensures
+    gives_limits _ _ _ _ (λ e. omega arith) w c.low_first-kind.ensures c.low_first-counted.ensures
     (sym c.if-not-is_known.ensures)
     (sym c.if-not-is_within.ensures)
 
@@ -61,6 +61,6 @@ pub returns : goal.returns
 unfolding kind_at length_at
 returns c =
     let w = sym c.if-not-is_whole.ensures in
-    gives_record _ _ _ _ c.if-place-log.false w c.low_first-kind.ensures c.low_first-counted.ensures
+    gives_record _ _ _ _ (λ e. omega arith) w c.low_first-kind.ensures c.low_first-counted.ensures
     (sym c.if-not-is_known.ensures)
     (sym c.if-not-is_within.ensures)
