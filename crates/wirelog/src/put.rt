@@ -26,7 +26,7 @@ fn put_record(kind: u32, body: &[u8], out: &mut [u8])
 {
     put_head(2 + body.len(), kind, &mut out[0..4]);
     let end = 4 + body.len();
-    bytes::copy(body, &mut out[4..end]);
+    out[4..end].copy_from_slice(body);
 }
 
 // The record of a kind and a body.

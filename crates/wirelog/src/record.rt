@@ -25,6 +25,7 @@ pub enum Found {
 }
 
 // Whether the record at a place of the log has two bytes of length, at least 2 of it, and all that it counts.
+#[tactic(auto, using(crate::proofs::FoundLaws::too_short, crate::proofs::FoundLaws::too_low), unfolding(crate::specs::Record::length_at))]
 fn is_whole(log: &[u8], place: usize) -> bool
     requires { place ≤ length log.now }
     ensures { result ≡ whole_at log.now place }
