@@ -1,21 +1,24 @@
 // What the lines are made of: text, decimal numbers, upper-case hexadecimal as the data sheets print it.
+#![tactic(auto)]
+
 ghost use Rattle.std.specs.Prelude.{◌≡◌, ◌%◌, get_or};
 ghost use Rattle.say.specs.Digits.{digits};
 
-use libc::STDOUT_FILENO;
+use std::io;
 
-pub fn text(words: &[u8]) {
-    io::write_all(STDOUT_FILENO, words);
+pub fn text(rt: &impl Print, words: &[u8]) -> io::Result<()> {
+    rt.write_all(words)
 }
 
-pub fn line() {
-    text(b"\n");
+pub fn line(rt: &impl Print) -> io::Result<()> {
+    text(rt, b"\n")
 }
 
-pub fn decimal(number: u64) {
-    io::print_decimal(STDOUT_FILENO, number);
+pub fn decimal(rt: &impl Print, number: u64) -> io::Result<()> {
+    rt.print(number)
 }
 
+#[tactic(auto, using(crate::proofs::DigitLaws::figure, crate::proofs::DigitLaws::letter))]
 fn digit(value: u8) -> u8
     ensures { result ≡ get_or digits (value % 16) 0 }
 {
@@ -24,37 +27,37 @@ fn digit(value: u8) -> u8
 }
 
 // At least `width` digits.
-pub fn hex(number: u32, width: usize) {
+pub fn hex(rt: &impl Print, number: u32, width: usize) -> io::Result<()> {
     let mut digits = [0u8; 8];
     let mut rest = number;
     let mut at: usize = 8;
     while 0 < at {
         if rest == 0 && width <= 8 - at {
-            text(&digits[at..8]);
-            return;
+            return text(rt, &digits[at..8]);
         }
         at -= 1;
         digits[at] = digit((rest % 16) as u8);
         rest /= 16;
     }
-    text(&digits);
+    text(rt, &digits)
 }
 
-pub fn bytes(list: &[u8]) {
+pub fn bytes(rt: &impl Print, list: &[u8]) -> io::Result<()> {
     if list.len() == 0 {
-        text(b"-");
+        text(rt, b"-")?;
     }
     let mut i = 0;
     while i < list.len() {
-        text(&[digit(list[i] / 16), digit(list[i])]);
+        text(rt, &[digit(list[i] / 16), digit(list[i])])?;
         i += 1;
     }
+    Ok(())
 }
 
 // A command for n devices, and a space.
-pub fn command(n: u32, code: u32) {
-    decimal(n as u64);
-    text(b" ");
-    hex(code, 3);
-    text(b" ");
+pub fn command(rt: &impl Print, n: u32, code: u32) -> io::Result<()> {
+    decimal(rt, n as u64)?;
+    text(rt, b" ")?;
+    hex(rt, code, 3)?;
+    text(rt, b" ")
 }

@@ -2,6 +2,8 @@
 // and pins that changed and the whole reply. So bit 1 of CFGA's first byte is 0 as device 1 stores it, 1 as device 2 does, and so on.
 ghost use Rattle.std.specs.Prelude.{◌+◌, ◌≤◌, ◌<◌, length};
 
+use std::io;
+
 fn before(pins: &[u8], j: usize) -> u8
     requires { j ≤ 1853 }
 {
@@ -51,20 +53,20 @@ fn end_of(at: usize, length: usize) -> usize
     at + 6
 }
 
-fn place(at: usize)
+fn place(rt: &impl Print, at: usize) -> io::Result<()>
     requires { at ≤ 1853 }
 {
-    say::decimal((at / 109 + 1) as u64);
-    say::text(b".");
+    say::decimal(rt, (at / 109 + 1) as u64)?;
+    say::text(rt, b".")?;
     if at % 109 == 108 {
-        say::text(b"pin");
+        say::text(rt, b"pin")?;
     } else {
-        say::decimal((at % 109 / 6) as u64);
+        say::decimal(rt, (at % 109 / 6) as u64)?;
     }
-    say::text(b"=");
+    say::text(rt, b"=")
 }
 
-fn changed(state: &[u8], pins: &[u8])
+fn changed(rt: &impl Print, state: &[u8], pins: &[u8]) -> io::Result<()>
     requires { length state.now ≤ 1853 }
 {
     let mut none = true;
@@ -73,271 +75,339 @@ fn changed(state: &[u8], pins: &[u8])
         let end = end_of(at, state.len());
         if differs(state, pins, at, end) {
             if !none {
-                say::text(b",");
+                say::text(rt, b",")?;
             }
-            place(at);
-            say::bytes(&state[at..end]);
+            place(rt, at)?;
+            say::bytes(rt, &state[at..end])?;
             none = false;
         }
         at = end;
     }
     if none {
-        say::text(b"-");
+        say::text(rt, b"-")?;
     }
+    Ok(())
 }
 
-fn ask(n: u32, frame: &[u8], registers: usize, pins: &[u8], room: usize) {
-    say::text(b"chain ");
-    say::decimal(n as u64);
-    say::text(b" ");
-    say::bytes(frame);
-    say::text(b" ");
-    say::decimal(registers as u64);
-    say::text(b" ");
-    say::bytes(pins);
-    say::text(b" ");
-    say::decimal(room as u64);
-    say::text(b" : ");
+fn ask(
+    rt: &impl Print,
+    n: u32,
+    frame: &[u8],
+    registers: usize,
+    pins: &[u8],
+    room: usize,
+) -> io::Result<()> {
+    say::text(rt, b"chain ")?;
+    say::decimal(rt, n as u64)?;
+    say::text(rt, b" ")?;
+    say::bytes(rt, frame)?;
+    say::text(rt, b" ")?;
+    say::decimal(rt, registers as u64)?;
+    say::text(rt, b" ")?;
+    say::bytes(rt, pins)?;
+    say::text(rt, b" ")?;
+    say::decimal(rt, room as u64)?;
+    say::text(rt, b" : ")
 }
 
-fn answer(heard: chain::Heard, state: &[u8], pins: &[u8], reply: &[u8])
+fn answer(
+    rt: &impl Print,
+    heard: chain::Heard,
+    state: &[u8],
+    pins: &[u8],
+    reply: &[u8],
+) -> io::Result<()>
     requires { length state.now ≤ 1853 }
 {
-    say::decimal(heard.number as u64);
-    say::text(b" ");
-    say::hex(heard.word as u32, 4);
-    say::text(b" ");
-    changed(state, pins);
-    say::text(b" ");
-    say::bytes(reply);
-    say::line();
+    say::decimal(rt, heard.number as u64)?;
+    say::text(rt, b" ")?;
+    say::hex(rt, heard.word as u32, 4)?;
+    say::text(rt, b" ")?;
+    changed(rt, state, pins)?;
+    say::text(rt, b" ")?;
+    say::bytes(rt, reply)?;
+    say::line(rt)
 }
 
-fn run(n: u32, frame: &[u8], pins: &[u8], state: &mut [u8], reply: &mut [u8])
+fn run(
+    rt: &impl Print,
+    n: u32,
+    frame: &[u8],
+    pins: &[u8],
+    state: &mut [u8],
+    reply: &mut [u8],
+) -> io::Result<()>
     requires { length state.old ≤ 1853 }
 {
-    ask(n, frame, state.len(), pins, reply.len());
+    ask(rt, n, frame, state.len(), pins, reply.len())?;
     prepare(pins, state);
     let heard = chain::serve(n, frame, state, reply);
-    answer(heard, state, pins, reply);
+    answer(rt, heard, state, pins, reply)
 }
 
-fn case(n: u32, frame: &[u8], registers: usize, pins: &[u8], room: usize)
+fn case(
+    rt: &impl Print,
+    n: u32,
+    frame: &[u8],
+    registers: usize,
+    pins: &[u8],
+    room: usize,
+) -> io::Result<()>
     requires { (registers ≤ 1853) × (room ≤ 210) }
 {
     let mut state = [0u8; 1853];
     let mut reply = [0xAAu8; 210];
     run(
+        rt,
         n,
         frame,
         pins,
         &mut state[0..registers],
         &mut reply[0..room],
-    );
+    )
 }
 
 // A long frame: the four bytes of a command laid over the start of the others.
 fn long_case(
+    rt: &impl Print,
     n: u32,
     command: &[u8; 4],
     frame: &mut [u8],
     registers: usize,
     pins: &[u8],
     room: usize,
-)
+) -> io::Result<()>
     requires { (4 ≤ length frame.old) × (registers ≤ 1853) × (room ≤ 210) }
 {
-    bytes::copy(command, frame);
-    case(n, frame, registers, pins, room);
+    frame[0..4].copy_from_slice(command);
+    case(rt, n, frame, registers, pins, room)
 }
 
 // One device whose pin is 1, and two whose pins are 1 and 0: none of them is the bit that is stored.
-fn one(frame: &[u8], room: usize)
+fn one(rt: &impl Print, frame: &[u8], room: usize) -> io::Result<()>
     requires { room ≤ 210 }
 {
-    case(1, frame, 109, b"\x01", room);
+    case(rt, 1, frame, 109, b"\x01", room)
 }
 
-fn two(frame: &[u8], room: usize)
+fn two(rt: &impl Print, frame: &[u8], room: usize) -> io::Result<()>
     requires { room ≤ 210 }
 {
-    case(2, frame, 218, b"\x01\x00", room);
+    case(rt, 2, frame, 218, b"\x01\x00", room)
 }
 
-fn writes() {
-    one(b"\x00\x01\x3D\x6E\x00\x00\x00\x00\x00\x00\xC2\x12", 12);
-    one(b"\x00\x01\x3D\x6F\x00\x00\x00\x00\x00\x00\xC2\x12", 12);
-    one(b"\x00\x00\xB6\x5C\x00\x00\x00\x00\x00\x00\xC2\x12", 12);
+fn writes(rt: &impl Print) -> io::Result<()> {
+    one(rt, b"\x00\x01\x3D\x6E\x00\x00\x00\x00\x00\x00\xC2\x12", 12)?;
+    one(rt, b"\x00\x01\x3D\x6F\x00\x00\x00\x00\x00\x00\xC2\x12", 12)?;
+    one(rt, b"\x00\x00\xB6\x5C\x00\x00\x00\x00\x00\x00\xC2\x12", 12)?;
     two(
+        rt,
         b"\x00\x01\x3D\x6E\x11\x12\x13\x14\x15\x16\x6D\x58\x01\x02\x03\x04\x05\x06\x22\xEE",
         20,
-    );
+    )?;
     two(
+        rt,
         b"\x00\x01\x3D\x6E\x11\x12\x13\x14\x15\x16\x6D\x59\x01\x02\x03\x04\x05\x06\x22\xEE",
         22,
-    );
+    )?;
     two(
+        rt,
         b"\x00\x01\x3D\x6E\x11\x12\x13\x14\x15\x16\x6D\x58\x81\x02\x03\x04\x05\x06\x22\xEE",
         20,
-    );
+    )?;
     two(
+        rt,
         b"\x00\x01\x3D\x6E\x11\x12\x13\x14\x15\x16\x6D\x59\x81\x02\x03\x04\x05\x06\x22\xEE",
         20,
-    );
+    )
 }
 
-fn reads_and_clears() {
-    one(b"\x00\x04\x07\xC2\xFF\xFF\xFF\xFF\xFF\xFF\xFF\xFF", 12);
+fn reads_and_clears(rt: &impl Print) -> io::Result<()> {
+    one(rt, b"\x00\x04\x07\xC2\xFF\xFF\xFF\xFF\xFF\xFF\xFF\xFF", 12)?;
     two(
+        rt,
         b"\x00\x09\xD5\x60\xFF\xFF\xFF\xFF\xFF\xFF\xFF\xFF\xFF\xFF\xFF\xFF\xFF\xFF\xFF\xFF",
         20,
-    );
+    )?;
     two(
+        rt,
         b"\x00\x0A\xC3\x04\x00\x00\x00\x00\x00\x00\x00\x00\x00\x00\x00\x00\x00\x00\x00\x00",
         24,
-    );
-    two(b"\x07\x11\xC9\xC0", 4);
-    one(b"\x07\x12\xDF\xA4", 7);
+    )?;
+    two(rt, b"\x07\x11\xC9\xC0", 4)?;
+    one(rt, b"\x07\x12\xDF\xA4", 7)?;
     long_case(
+        rt,
         16,
         b"\x07\x22\x32\xD6",
         &mut [0xFF; 132],
         1744,
         b"\x01\x00\x01\x00\x01\x00\x01\x00\x01\x00\x01\x00\x01\x00\x01\x00",
         132,
-    );
+    )
 }
 
-fn refusals() {
-    case(0, b"\x07\x11\xC9\xC0", 0, b"", 4);
-    case(17, b"\x07\x11\xC9\xC0", 1853, &[1; 17], 4);
-    case(1, b"\x07\x11\xC9\xC0", 108, b"", 4);
-    case(1, b"\x07\x11\xC9\xC0", 110, b"\x01", 4);
-    one(b"\x07\x11\xC9\xC0", 3);
-    one(b"", 0);
-    one(b"\x07\x11\xC9", 5);
-    one(b"\x07\x11\xC9\xC0\x00", 8);
-    one(b"\x00\x01\x3D\x6E", 4);
-    one(b"\x00\x03\xA0\x38", 6);
-    one(b"\xF8\x04\x09\x70\xFF\xFF\xFF\xFF\xFF\xFF\xFF\xFF", 12);
-    one(b"\x00\x17\x4A\x88", 4);
-    one(b"\x00\x20\x00\x00\xA1\xA2\xA3\xA4\xA5\xA6\x5D\x64", 12);
-    long_case(1, b"\x00\x02\x2B\x0A", &mut [0xFF; 204], 109, b"\x01", 210);
-    long_case(1, b"\x00\x00\x00\x00", &mut [0x00; 200], 109, b"\x01", 200);
-    case(0, b"\x07\x11\xC9", 108, b"", 0);
-    case(1, b"\x07\x11\xC9", 108, b"", 0);
-    one(b"\x07\x11\xC9", 0);
+fn refusals(rt: &impl Print) -> io::Result<()> {
+    case(rt, 0, b"\x07\x11\xC9\xC0", 0, b"", 4)?;
+    case(rt, 17, b"\x07\x11\xC9\xC0", 1853, &[1; 17], 4)?;
+    case(rt, 1, b"\x07\x11\xC9\xC0", 108, b"", 4)?;
+    case(rt, 1, b"\x07\x11\xC9\xC0", 110, b"\x01", 4)?;
+    one(rt, b"\x07\x11\xC9\xC0", 3)?;
+    one(rt, b"", 0)?;
+    one(rt, b"\x07\x11\xC9", 5)?;
+    one(rt, b"\x07\x11\xC9\xC0\x00", 8)?;
+    one(rt, b"\x00\x01\x3D\x6E", 4)?;
+    one(rt, b"\x00\x03\xA0\x38", 6)?;
+    one(rt, b"\xF8\x04\x09\x70\xFF\xFF\xFF\xFF\xFF\xFF\xFF\xFF", 12)?;
+    one(rt, b"\x00\x17\x4A\x88", 4)?;
+    one(rt, b"\x00\x20\x00\x00\xA1\xA2\xA3\xA4\xA5\xA6\x5D\x64", 12)?;
+    long_case(
+        rt,
+        1,
+        b"\x00\x02\x2B\x0A",
+        &mut [0xFF; 204],
+        109,
+        b"\x01",
+        210,
+    )?;
+    long_case(
+        rt,
+        1,
+        b"\x00\x00\x00\x00",
+        &mut [0x00; 200],
+        109,
+        b"\x01",
+        200,
+    )?;
+    case(rt, 0, b"\x07\x11\xC9", 108, b"", 0)?;
+    case(rt, 1, b"\x07\x11\xC9", 108, b"", 0)?;
+    one(rt, b"\x07\x11\xC9", 0)
 }
 
-fn read_one(pins: &[u8]) {
+fn read_one(rt: &impl Print, pins: &[u8]) -> io::Result<()> {
     case(
+        rt,
         1,
         b"\x00\x02\x2B\x0A\xFF\xFF\xFF\xFF\xFF\xFF\xFF\xFF",
         109,
         pins,
         12,
-    );
+    )
 }
 
-fn read_two(pins: &[u8]) {
+fn read_two(rt: &impl Print, pins: &[u8]) -> io::Result<()> {
     case(
+        rt,
         2,
         b"\x00\x02\x2B\x0A\xFF\xFF\xFF\xFF\xFF\xFF\xFF\xFF\xFF\xFF\xFF\xFF\xFF\xFF\xFF\xFF",
         218,
         pins,
         20,
-    );
+    )
 }
 
 // The pins of the others are 1 and 0 in turn.
-fn read_sixteen(last: u8, room: usize)
+fn read_sixteen(rt: &impl Print, last: u8, room: usize) -> io::Result<()>
     requires { room ≤ 210 }
 {
     let pins = [1, 0, 1, 0, 1, 0, 1, 0, 1, 0, 1, 0, 1, 0, 1, last];
-    long_case(16, b"\x00\x02\x2B\x0A", &mut [0xFF; 132], 1744, &pins, room);
+    long_case(
+        rt,
+        16,
+        b"\x00\x02\x2B\x0A",
+        &mut [0xFF; 132],
+        1744,
+        &pins,
+        room,
+    )
 }
 
-fn write_set(pins: &[u8]) {
+fn write_set(rt: &impl Print, pins: &[u8]) -> io::Result<()> {
     case(
+        rt,
         2,
         b"\x00\x01\x3D\x6E\x02\xA2\xA3\xA4\xA5\xA6\x86\x9E\x02\xA2\xA3\xA4\xA5\xA6\x86\x9E",
         218,
         pins,
         20,
-    );
+    )
 }
 
-fn write_unset(pins: &[u8]) {
+fn write_unset(rt: &impl Print, pins: &[u8]) -> io::Result<()> {
     case(
+        rt,
         2,
         b"\x00\x01\x3D\x6E\xFD\xB2\xB3\xB4\xB5\xB6\xD3\xB4\xFD\xB2\xB3\xB4\xB5\xB6\xD3\xB4",
         218,
         pins,
         20,
-    );
+    )
 }
 
 // CFGA written with bit 1 set and with bit 1 clear, and read, with each row of pins; and CFGB, where no pin is seen.
-fn pins() {
-    write_set(b"\x00\x01");
-    write_set(b"\x01\x00");
-    write_unset(b"\x00\x01");
-    write_unset(b"\x01\x00");
+fn pins(rt: &impl Print) -> io::Result<()> {
+    write_set(rt, b"\x00\x01")?;
+    write_set(rt, b"\x01\x00")?;
+    write_unset(rt, b"\x00\x01")?;
+    write_unset(rt, b"\x01\x00")?;
     case(
+        rt,
         2,
         b"\x00\x24\xB1\x9E\x02\xA2\xA3\xA4\xA5\xA6\x86\x9E\xFD\xB2\xB3\xB4\xB5\xB6\xD3\xB4",
         218,
         b"\x00\x01",
         20,
-    );
-    read_one(b"\x00");
-    read_one(b"\x01");
-    read_two(b"\x00\x00");
-    read_two(b"\x00\x01");
-    read_two(b"\x01\x00");
-    read_two(b"\x01\x01");
-    read_sixteen(0, 132);
-    one(b"\x00\x26\x2C\xC8\xFF\xFF\xFF\xFF\xFF\xFF\xFF\xFF", 12);
+    )?;
+    read_one(rt, b"\x00")?;
+    read_one(rt, b"\x01")?;
+    read_two(rt, b"\x00\x00")?;
+    read_two(rt, b"\x00\x01")?;
+    read_two(rt, b"\x01\x00")?;
+    read_two(rt, b"\x01\x01")?;
+    read_sixteen(rt, 0, 132)?;
+    one(rt, b"\x00\x26\x2C\xC8\xFF\xFF\xFF\xFF\xFF\xFF\xFF\xFF", 12)?;
     case(
+        rt,
         2,
         b"\x00\x26\x2C\xC8\xFF\xFF\xFF\xFF\xFF\xFF\xFF\xFF\xFF\xFF\xFF\xFF\xFF\xFF\xFF\xFF",
         218,
         b"\x01\x01",
         20,
-    );
+    )
 }
 
 // A pin of 2 or 255 at the first or the last device, with a reply too short and a wrong command too; and the lengths that a state had without its pins.
-fn refused_pins() {
-    read_one(b"\x02");
+fn refused_pins(rt: &impl Print) -> io::Result<()> {
+    read_one(rt, b"\x02")?;
     case(
+        rt,
         1,
         b"\x00\x01\x3D\x6E\x02\xA2\xA3\xA4\xA5\xA6\x86\x9E",
         109,
         b"\xFF",
         12,
-    );
-    read_two(b"\x02\x00");
-    write_set(b"\xFF\x00");
-    write_set(b"\x01\x02");
-    read_two(b"\x01\xFF");
-    read_sixteen(2, 132);
-    read_sixteen(255, 132);
-    case(1, b"\x07\x11\xC9\xC0", 109, b"\x02", 3);
-    case(2, b"\x07\x11\xC9\xC0", 218, b"\x01\xFF", 3);
-    read_sixteen(2, 131);
-    case(1, b"\x07\x11\xC9", 109, b"\x02", 0);
-    case(1, b"\x00\x01\x3D\x6F", 109, b"\xFF", 4);
-    case(17, b"\x07\x11\xC9", 1853, &[2; 17], 0);
-    case(2, b"\x07\x11\xC9\xC0", 216, b"\x01", 4);
-    case(16, b"\x07\x11\xC9\xC0", 1728, &[1; 15], 4);
+    )?;
+    read_two(rt, b"\x02\x00")?;
+    write_set(rt, b"\xFF\x00")?;
+    write_set(rt, b"\x01\x02")?;
+    read_two(rt, b"\x01\xFF")?;
+    read_sixteen(rt, 2, 132)?;
+    read_sixteen(rt, 255, 132)?;
+    case(rt, 1, b"\x07\x11\xC9\xC0", 109, b"\x02", 3)?;
+    case(rt, 2, b"\x07\x11\xC9\xC0", 218, b"\x01\xFF", 3)?;
+    read_sixteen(rt, 2, 131)?;
+    case(rt, 1, b"\x07\x11\xC9", 109, b"\x02", 0)?;
+    case(rt, 1, b"\x00\x01\x3D\x6F", 109, b"\xFF", 4)?;
+    case(rt, 17, b"\x07\x11\xC9", 1853, &[2; 17], 0)?;
+    case(rt, 2, b"\x07\x11\xC9\xC0", 216, b"\x01", 4)?;
+    case(rt, 16, b"\x07\x11\xC9\xC0", 1728, &[1; 15], 4)
 }
 
-pub fn show() {
-    say::text(b"# chain\n");
-    writes();
-    reads_and_clears();
-    refusals();
-    pins();
-    refused_pins();
+pub fn show(rt: &impl Print) -> io::Result<()> {
+    say::text(rt, b"# chain\n")?;
+    writes(rt)?;
+    reads_and_clears(rt)?;
+    refusals(rt)?;
+    pins(rt)?;
+    refused_pins(rt)
 }

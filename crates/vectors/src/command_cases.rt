@@ -2,26 +2,28 @@
 ghost use Rattle.std.specs.Prelude.{◌<◌};
 
 use frames::commands;
+use std::io;
 
-fn kind_name(kind: u8) {
+fn kind_name(rt: &impl Print, kind: u8) -> io::Result<()> {
     if kind == commands::WRITE {
-        say::text(b" write ");
+        say::text(rt, b" write ")
     } else if kind == commands::READ {
-        say::text(b" read ");
+        say::text(rt, b" read ")
     } else if kind == commands::CLEAR {
-        say::text(b" clear ");
+        say::text(rt, b" clear ")
     } else {
-        say::text(b" unknown ");
+        say::text(rt, b" unknown ")
     }
 }
 
 // The group, or the groups that a clear sets, found by clearing the registers of one device.
-fn groups(code: u32, found: commands::Command) {
-    say::decimal(found.group as u64);
+fn groups(rt: &impl Print, code: u32, found: commands::Command) -> io::Result<()> {
+    say::decimal(rt, found.group as u64)?;
     if found.kind == commands::CLEAR {
-        say::text(b"-");
-        say::decimal(last_cleared(code) as u64);
+        say::text(rt, b"-")?;
+        say::decimal(rt, last_cleared(code) as u64)?;
     }
+    Ok(())
 }
 
 fn last_cleared(code: u32) -> usize {
@@ -41,50 +43,50 @@ fn last_cleared(code: u32) -> usize {
     last
 }
 
-fn command(code: u32, name: &[u8])
+fn command(rt: &impl Print, code: u32, name: &[u8]) -> io::Result<()>
     requires { code < 65536 }
 {
     let found = commands::find(code);
     let table = pec::table();
     let mut wire = [0u8; 4];
     frames::groups::put_command(&table, code, &mut wire);
-    say::text(b"command ");
-    say::hex(code, 3);
-    say::text(b" ");
-    say::text(name);
-    kind_name(found.kind);
-    groups(code, found);
-    say::text(b" ");
-    say::bytes(&wire);
-    say::line();
+    say::text(rt, b"command ")?;
+    say::hex(rt, code, 3)?;
+    say::text(rt, b" ")?;
+    say::text(rt, name)?;
+    kind_name(rt, found.kind)?;
+    groups(rt, code, found)?;
+    say::text(rt, b" ")?;
+    say::bytes(rt, &wire)?;
+    say::line(rt)
 }
 
-pub fn show() {
-    say::text(b"# commands\n");
-    command(0x001, b"WRCFGA");
-    command(0x002, b"RDCFGA");
-    command(0x004, b"RDCVA");
-    command(0x006, b"RDCVB");
-    command(0x008, b"RDCVC");
-    command(0x009, b"RDCVE");
-    command(0x00A, b"RDCVD");
-    command(0x00B, b"RDCVF");
-    command(0x00C, b"RDAUXA");
-    command(0x00D, b"RDAUXC");
-    command(0x00E, b"RDAUXB");
-    command(0x00F, b"RDAUXD");
-    command(0x010, b"RDSTATA");
-    command(0x012, b"RDSTATB");
-    command(0x014, b"WRSCTRL");
-    command(0x016, b"RDSCTRL");
-    command(0x01C, b"WRPSB");
-    command(0x01E, b"RDPSB");
-    command(0x020, b"WRPWM");
-    command(0x022, b"RDPWM");
-    command(0x024, b"WRCFGB");
-    command(0x026, b"RDCFGB");
-    command(0x711, b"CLRCELL");
-    command(0x712, b"CLRAUX");
-    command(0x721, b"WRCOMM");
-    command(0x722, b"RDCOMM");
+pub fn show(rt: &impl Print) -> io::Result<()> {
+    say::text(rt, b"# commands\n")?;
+    command(rt, 0x001, b"WRCFGA")?;
+    command(rt, 0x002, b"RDCFGA")?;
+    command(rt, 0x004, b"RDCVA")?;
+    command(rt, 0x006, b"RDCVB")?;
+    command(rt, 0x008, b"RDCVC")?;
+    command(rt, 0x009, b"RDCVE")?;
+    command(rt, 0x00A, b"RDCVD")?;
+    command(rt, 0x00B, b"RDCVF")?;
+    command(rt, 0x00C, b"RDAUXA")?;
+    command(rt, 0x00D, b"RDAUXC")?;
+    command(rt, 0x00E, b"RDAUXB")?;
+    command(rt, 0x00F, b"RDAUXD")?;
+    command(rt, 0x010, b"RDSTATA")?;
+    command(rt, 0x012, b"RDSTATB")?;
+    command(rt, 0x014, b"WRSCTRL")?;
+    command(rt, 0x016, b"RDSCTRL")?;
+    command(rt, 0x01C, b"WRPSB")?;
+    command(rt, 0x01E, b"RDPSB")?;
+    command(rt, 0x020, b"WRPWM")?;
+    command(rt, 0x022, b"RDPWM")?;
+    command(rt, 0x024, b"WRCFGB")?;
+    command(rt, 0x026, b"RDCFGB")?;
+    command(rt, 0x711, b"CLRCELL")?;
+    command(rt, 0x712, b"CLRAUX")?;
+    command(rt, 0x721, b"WRCOMM")?;
+    command(rt, 0x722, b"RDCOMM")
 }

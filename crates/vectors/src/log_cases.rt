@@ -1,169 +1,180 @@
 // The wire log: what its writer, its reader and its walk answer. The writer is lent an output of `room` bytes 0xAA, which is shown whole afterwards.
 ghost use Rattle.std.specs.Prelude.{◌≤◌, length};
 
-fn field(number: u64) {
-    say::text(b" ");
-    say::decimal(number);
+use std::io;
+
+fn field(rt: &impl Print, number: u64) -> io::Result<()> {
+    say::text(rt, b" ")?;
+    say::decimal(rt, number)
 }
 
-fn run(kind: u32, body: &[u8], out: &mut [u8]) {
-    say::text(b"put");
-    field(kind as u64);
-    say::text(b" ");
-    say::bytes(body);
-    field(out.len() as u64);
-    say::text(b" :");
+fn run(rt: &impl Print, kind: u32, body: &[u8], out: &mut [u8]) -> io::Result<()> {
+    say::text(rt, b"put")?;
+    field(rt, kind as u64)?;
+    say::text(rt, b" ")?;
+    say::bytes(rt, body)?;
+    field(rt, out.len() as u64)?;
+    say::text(rt, b" :")?;
     let written = wirelog::put::put(kind, body, out);
-    field(written.number as u64);
-    field(written.length as u64);
-    say::text(b" ");
-    say::bytes(out);
-    say::line();
+    field(rt, written.number as u64)?;
+    field(rt, written.length as u64)?;
+    say::text(rt, b" ")?;
+    say::bytes(rt, out)?;
+    say::line(rt)
 }
 
-fn put(kind: u32, body: &[u8], room: usize)
+fn put(rt: &impl Print, kind: u32, body: &[u8], room: usize) -> io::Result<()>
     requires { room ≤ 205 }
 {
     let mut out = [0xAAu8; 205];
-    run(kind, body, &mut out[0..room]);
+    run(rt, kind, body, &mut out[0..room])
 }
 
-fn at(log: &[u8], place: usize) {
-    say::text(b"at");
-    field(place as u64);
-    say::text(b" ");
-    say::bytes(log);
-    say::text(b" :");
+fn at(rt: &impl Print, log: &[u8], place: usize) -> io::Result<()> {
+    say::text(rt, b"at")?;
+    field(rt, place as u64)?;
+    say::text(rt, b" ")?;
+    say::bytes(rt, log)?;
+    say::text(rt, b" :")?;
     let found = wirelog::flat::record_at(log, place);
-    field(found.number as u64);
-    field(found.end as u64);
-    field(found.kind as u64);
-    field(found.body as u64);
-    field(found.body_len as u64);
-    field(found.next as u64);
-    say::line();
+    field(rt, found.number as u64)?;
+    field(rt, found.end as u64)?;
+    field(rt, found.kind as u64)?;
+    field(rt, found.body as u64)?;
+    field(rt, found.body_len as u64)?;
+    field(rt, found.next as u64)?;
+    say::line(rt)
 }
 
 // A long record: the four bytes of its length and kind laid over the start of the others.
-fn long_at(head: &[u8; 4], log: &mut [u8])
+fn long_at(rt: &impl Print, head: &[u8; 4], log: &mut [u8]) -> io::Result<()>
     requires { 4 ≤ length log.old }
 {
-    bytes::copy(head, log);
-    at(log, 0);
+    log[0..4].copy_from_slice(head);
+    at(rt, log, 0)
 }
 
-fn walk(log: &[u8]) {
-    say::text(b"walk ");
-    say::bytes(log);
-    say::text(b" :");
+fn walk(rt: &impl Print, log: &[u8]) -> io::Result<()> {
+    say::text(rt, b"walk ")?;
+    say::bytes(rt, log)?;
+    say::text(rt, b" :")?;
     let walked = wirelog::walk::walk(log);
-    field(walked.number as u64);
-    field(walked.at as u64);
-    field(walked.sizes as u64);
-    field(walked.frames as u64);
-    field(walked.replies as u64);
-    field(walked.notes as u64);
-    field(walked.unknown as u64);
-    say::line();
+    field(rt, walked.number as u64)?;
+    field(rt, walked.at as u64)?;
+    field(rt, walked.sizes as u64)?;
+    field(rt, walked.frames as u64)?;
+    field(rt, walked.replies as u64)?;
+    field(rt, walked.notes as u64)?;
+    field(rt, walked.unknown as u64)?;
+    say::line(rt)
 }
 
-fn written() {
-    put(1, b"\x01", 5);
-    put(1, b"\x10", 8);
-    put(2, b"", 4);
-    put(2, b"\x07\x11\xC9\xC0", 9);
-    put(2, &[0x5A; 132], 136);
-    put(3, &[0xFF; 132], 138);
-    put(4, b"hi", 6);
-    put(4, &[0; 200], 204);
+fn written(rt: &impl Print) -> io::Result<()> {
+    put(rt, 1, b"\x01", 5)?;
+    put(rt, 1, b"\x10", 8)?;
+    put(rt, 2, b"", 4)?;
+    put(rt, 2, b"\x07\x11\xC9\xC0", 9)?;
+    put(rt, 2, &[0x5A; 132], 136)?;
+    put(rt, 3, &[0xFF; 132], 138)?;
+    put(rt, 4, b"hi", 6)?;
+    put(rt, 4, &[0; 200], 204)
 }
 
-fn not_written() {
-    put(1, b"", 5);
-    put(1, b"\x00", 5);
-    put(1, b"\x11", 5);
-    put(1, b"\x01\x01", 6);
-    put(2, &[0x5A; 133], 137);
-    put(3, &[0xFF; 133], 137);
-    put(4, &[0; 201], 205);
-    put(0, b"", 4);
-    put(5, b"", 4);
-    put(65537, b"\x01", 5);
-    put(4294967295, b"", 4);
-    put(1, b"\x01", 4);
-    put(3, &[0xFF; 132], 135);
-    put(4, &[0; 200], 0);
-    put(1, b"\x11", 4);
-    put(5, b"", 0);
+fn not_written(rt: &impl Print) -> io::Result<()> {
+    put(rt, 1, b"", 5)?;
+    put(rt, 1, b"\x00", 5)?;
+    put(rt, 1, b"\x11", 5)?;
+    put(rt, 1, b"\x01\x01", 6)?;
+    put(rt, 2, &[0x5A; 133], 137)?;
+    put(rt, 3, &[0xFF; 133], 137)?;
+    put(rt, 4, &[0; 201], 205)?;
+    put(rt, 0, b"", 4)?;
+    put(rt, 5, b"", 4)?;
+    put(rt, 65537, b"\x01", 5)?;
+    put(rt, 4294967295, b"", 4)?;
+    put(rt, 1, b"\x01", 4)?;
+    put(rt, 3, &[0xFF; 132], 135)?;
+    put(rt, 4, &[0; 200], 0)?;
+    put(rt, 1, b"\x11", 4)?;
+    put(rt, 5, b"", 0)
 }
 
-fn places(five: &[u8]) {
-    at(five, 0);
-    at(five, 5);
-    at(five, 13);
-    at(five, 19);
-    at(five, 27);
-    at(five, 33);
-    at(five, 34);
-    at(five, 18446744073709551615);
-    at(five, 1);
-    at(b"", 0);
-    at(b"", 1);
+fn places(rt: &impl Print, five: &[u8]) -> io::Result<()> {
+    at(rt, five, 0)?;
+    at(rt, five, 5)?;
+    at(rt, five, 13)?;
+    at(rt, five, 19)?;
+    at(rt, five, 27)?;
+    at(rt, five, 33)?;
+    at(rt, five, 34)?;
+    at(rt, five, 18446744073709551615)?;
+    at(rt, five, 1)?;
+    at(rt, b"", 0)?;
+    at(rt, b"", 1)
 }
 
-fn records() {
-    at(b"\x03\x00\x01\x00\x10", 0);
-    at(b"\x02\x00\x02\x00", 0);
-    long_at(b"\x86\x00\x03\x00", &mut [0xFF; 136]);
-    long_at(b"\xCA\x00\x04\x00", &mut [0; 204]);
-    at(b"\x02\x00\x00\x00", 0);
-    at(b"\x02\x00\x05\x00", 0);
-    at(b"\x03\x00\x01\x01\x02", 0);
-    long_at(b"\x00\x01\xFF\xFF", &mut [0; 258]);
+fn records(rt: &impl Print) -> io::Result<()> {
+    at(rt, b"\x03\x00\x01\x00\x10", 0)?;
+    at(rt, b"\x02\x00\x02\x00", 0)?;
+    long_at(rt, b"\x86\x00\x03\x00", &mut [0xFF; 136])?;
+    long_at(rt, b"\xCA\x00\x04\x00", &mut [0; 204])?;
+    at(rt, b"\x02\x00\x00\x00", 0)?;
+    at(rt, b"\x02\x00\x05\x00", 0)?;
+    at(rt, b"\x03\x00\x01\x01\x02", 0)?;
+    long_at(rt, b"\x00\x01\xFF\xFF", &mut [0; 258])
 }
 
-fn refusals() {
-    at(b"\x02\x00\x01\x00", 0);
-    at(b"\x03\x00\x01\x00\x00", 0);
-    at(b"\x03\x00\x01\x00\x11", 0);
-    at(b"\x04\x00\x01\x00\x01\x01", 0);
-    long_at(b"\x87\x00\x02\x00", &mut [0x5A; 137]);
-    long_at(b"\xCB\x00\x04\x00", &mut [0; 205]);
-    at(b"\x00\x00\x01\x00", 0);
-    at(b"\x01\x00\x01\x00", 0);
-    at(b"\x02\x00\x02", 0);
-    at(b"\x02\x00", 0);
-    at(b"\x02", 0);
-    at(b"\x03\x00\x01\x00", 0);
-    at(b"\x04\x00\x01\x00\x11", 0);
-    at(b"\xFF\xFF\x05\x00", 0);
+fn refusals(rt: &impl Print) -> io::Result<()> {
+    at(rt, b"\x02\x00\x01\x00", 0)?;
+    at(rt, b"\x03\x00\x01\x00\x00", 0)?;
+    at(rt, b"\x03\x00\x01\x00\x11", 0)?;
+    at(rt, b"\x04\x00\x01\x00\x01\x01", 0)?;
+    long_at(rt, b"\x87\x00\x02\x00", &mut [0x5A; 137])?;
+    long_at(rt, b"\xCB\x00\x04\x00", &mut [0; 205])?;
+    at(rt, b"\x00\x00\x01\x00", 0)?;
+    at(rt, b"\x01\x00\x01\x00", 0)?;
+    at(rt, b"\x02\x00\x02", 0)?;
+    at(rt, b"\x02\x00", 0)?;
+    at(rt, b"\x02", 0)?;
+    at(rt, b"\x03\x00\x01\x00", 0)?;
+    at(rt, b"\x04\x00\x01\x00\x11", 0)?;
+    at(rt, b"\xFF\xFF\x05\x00", 0)
 }
 
-fn walks(five: &[u8]) {
-    walk(b"");
-    walk(five);
+fn walks(rt: &impl Print, five: &[u8]) -> io::Result<()> {
+    walk(rt, b"")?;
+    walk(rt, five)?;
     walk(
+        rt,
         b"\x03\x00\x01\x00\x02\x04\x00\x04\x00hi\x04\x00\x07\x00\xAA\xBB\x04\x00\x04\x00hi\x06\x00\x03\x00\xFF\xFF\xFF\xFF\x04\x00\x07\x00\xAA\xBB\x04\x00\x04\x00hi\x04\x00\x07\x00\xAA\xBB",
-    );
+    )?;
     walk(
+        rt,
         b"\x06\x00\x02\x00\x07\x11\xC9\xC0\x06\x00\x03\x00\xFF\xFF\xFF\xFF\x06\x00\x02\x00\x07\x11\xC9\xC0\x06\x00\x03\x00\xFF\xFF\xFF\xFF",
-    );
-    walk(b"\x03\x00\x01\x00\x02\x06\x00\x02\x00\x07\x11\xC9\xC0\x02");
-    walk(b"\x03\x00\x01\x00\x02\x04\x00\x07\x00\xAA\xBB\x01\x00\x07\x00\x04\x00\x04\x00hi");
+    )?;
     walk(
+        rt,
+        b"\x03\x00\x01\x00\x02\x06\x00\x02\x00\x07\x11\xC9\xC0\x02",
+    )?;
+    walk(
+        rt,
+        b"\x03\x00\x01\x00\x02\x04\x00\x07\x00\xAA\xBB\x01\x00\x07\x00\x04\x00\x04\x00hi",
+    )?;
+    walk(
+        rt,
         b"\x04\x00\x04\x00hi\x06\x00\x03\x00\xFF\xFF\xFF\xFF\x03\x00\x01\x00\x00\x04\x00\x04\x00hi",
-    );
+    )
 }
 
-pub fn show() {
-    say::text(b"# wire log\n");
+pub fn show(rt: &impl Print) -> io::Result<()> {
+    say::text(rt, b"# wire log\n")?;
     // A chain size, a frame out, a record of unknown kind, a reply and a note, at 0, 5, 13, 19 and 27.
     let five =
         b"\x03\x00\x01\x00\x02\x06\x00\x02\x00\x07\x11\xC9\xC0\x04\x00\x07\x00\xAA\xBB\x06\x00\x03\x00\xFF\xFF\xFF\xFF\x04\x00\x04\x00hi";
-    written();
-    not_written();
-    places(five);
-    records();
-    refusals();
-    walks(five);
+    written(rt)?;
+    not_written(rt)?;
+    places(rt, five)?;
+    records(rt)?;
+    refusals(rt)?;
+    walks(rt, five)
 }

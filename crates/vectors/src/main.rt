@@ -1,5 +1,7 @@
 // Runs what the data sheets and documents 01 and 02 print against the rig, and shows each answer. The file 'stdout' beside src/ is what the second
 // implementation answers to the same questions.
+#![tactic(auto)]
+
 mod cells_cases;
 mod chain_cases;
 mod command_cases;
@@ -11,15 +13,17 @@ mod wake_cases;
 mod words;
 mod writer_cases;
 
-fn main() {
-    words::show();
-    command_cases::show();
-    conversion_cases::show();
-    writer_cases::show();
-    chain_cases::show();
-    wake_cases::show();
-    cells_cases::show();
-    tally_cases::show();
-    reader_cases::show();
-    log_cases::show();
+use std::io;
+
+fn main(rt: HostRuntime) -> io::Result<()> {
+    words::show(&rt)?;
+    command_cases::show(&rt)?;
+    conversion_cases::show(&rt)?;
+    writer_cases::show(&rt)?;
+    chain_cases::show(&rt)?;
+    wake_cases::show(&rt)?;
+    cells_cases::show(&rt)?;
+    tally_cases::show(&rt)?;
+    reader_cases::show(&rt)?;
+    log_cases::show(&rt)
 }

@@ -1,119 +1,152 @@
 // The reader: each case lends bytes and marks of 0xAA and shows them whole afterwards.
 ghost use Rattle.std.specs.Prelude.{◌≤◌};
 
-fn run(n: u32, code: u32, reply: &[u8], bytes: &mut [u8], marks: &mut [u8]) {
-    say::text(b"read ");
-    say::command(n, code);
-    say::bytes(reply);
-    say::text(b" ");
-    say::decimal(bytes.len() as u64);
-    say::text(b" ");
-    say::decimal(marks.len() as u64);
-    say::text(b" : ");
+use std::io;
+
+fn run(
+    rt: &impl Print,
+    n: u32,
+    code: u32,
+    reply: &[u8],
+    bytes: &mut [u8],
+    marks: &mut [u8],
+) -> io::Result<()> {
+    say::text(rt, b"read ")?;
+    say::command(rt, n, code)?;
+    say::bytes(rt, reply)?;
+    say::text(rt, b" ")?;
+    say::decimal(rt, bytes.len() as u64)?;
+    say::text(rt, b" ")?;
+    say::decimal(rt, marks.len() as u64)?;
+    say::text(rt, b" : ")?;
     let number = host::reader::read(n, code, reply, bytes, marks);
-    say::decimal(number as u64);
-    say::text(b" ");
-    say::bytes(bytes);
-    say::text(b" ");
-    say::bytes(marks);
-    say::line();
+    say::decimal(rt, number as u64)?;
+    say::text(rt, b" ")?;
+    say::bytes(rt, bytes)?;
+    say::text(rt, b" ")?;
+    say::bytes(rt, marks)?;
+    say::line(rt)
 }
 
-fn case(n: u32, code: u32, reply: &[u8], room: usize, places: usize)
+fn case(
+    rt: &impl Print,
+    n: u32,
+    code: u32,
+    reply: &[u8],
+    room: usize,
+    places: usize,
+) -> io::Result<()>
     requires { (room ≤ 18) × (places ≤ 3) }
 {
     let mut bytes = [0xAAu8; 18];
     let mut marks = [0xAAu8; 3];
-    run(n, code, reply, &mut bytes[0..room], &mut marks[0..places]);
+    run(
+        rt,
+        n,
+        code,
+        reply,
+        &mut bytes[0..room],
+        &mut marks[0..places],
+    )
 }
 
-fn replies() {
+fn replies(rt: &impl Print) -> io::Result<()> {
     case(
+        rt,
         1,
         0x004,
         b"\xFF\xFF\xFF\xFF\x00\x00\x00\x00\x00\x00\xC2\x12",
         6,
         1,
-    );
+    )?;
     case(
+        rt,
         2,
         0x004,
         b"\x00\x00\x00\x00\x01\x02\x03\x04\x05\x06\x22\xEE\x11\x12\x13\x14\x15\x16\x6D\x58",
         14,
         3,
-    );
+    )?;
     case(
+        rt,
         2,
         0x004,
         b"\x00\x00\x00\x00\x01\x02\x03\x04\x05\x06\x22\xEF\x11\x12\x13\x14\x15\x16\x6D\x58",
         14,
         3,
-    );
+    )?;
     case(
+        rt,
         2,
         0x004,
         b"\x00\x00\x00\x00\x01\x02\x03\x04\x05\x06\x22\xEE\xFF\xFF\xFF\xFF\xFF\xFF\xFF\xFF",
         14,
         3,
-    );
+    )?;
     case(
+        rt,
         3,
         0x009,
         b"\xFF\xFF\xFF\xFF\xE8\x18\x0F\x0F\x0F\x0F\xC6\x02\xFF\xFF\xFF\xFF\xFF\xFF\xFF\xFF\x60\x0F\x0F\x0F\x0F\x0F\x76\xB6",
         18,
         3,
-    );
+    )
 }
 
-fn refusals() {
-    case(0, 0x004, b"", 0, 0);
-    case(17, 0x004, b"", 0, 0);
-    case(1, 0x003, b"", 0, 0);
-    case(1, 0x001, b"", 0, 0);
-    case(1, 0x711, b"", 0, 0);
+fn refusals(rt: &impl Print) -> io::Result<()> {
+    case(rt, 0, 0x004, b"", 0, 0)?;
+    case(rt, 17, 0x004, b"", 0, 0)?;
+    case(rt, 1, 0x003, b"", 0, 0)?;
+    case(rt, 1, 0x001, b"", 0, 0)?;
+    case(rt, 1, 0x711, b"", 0, 0)?;
     case(
+        rt,
         1,
         0x004,
         b"\xFF\xFF\xFF\xFF\xFF\xFF\xFF\xFF\xFF\xFF\xFF",
         6,
         1,
-    );
+    )?;
     case(
+        rt,
         1,
         0x004,
         b"\xFF\xFF\xFF\xFF\xFF\xFF\xFF\xFF\xFF\xFF\xFF\xFF\xFF",
         6,
         1,
-    );
+    )?;
     case(
+        rt,
         1,
         0x004,
         b"\xFF\xFF\xFF\xFF\xFF\xFF\xFF\xFF\xFF\xFF\xFF\xFF",
         5,
         1,
-    );
+    )?;
     case(
+        rt,
         1,
         0x004,
         b"\xFF\xFF\xFF\xFF\xFF\xFF\xFF\xFF\xFF\xFF\xFF\xFF",
         6,
         0,
-    );
+    )
 }
 
-fn silence() {
+fn silence(rt: &impl Print) -> io::Result<()> {
     case(
+        rt,
         1,
         0x004,
         b"\xFF\xFF\xFF\xFF\xFF\xFF\xFF\xFF\xFF\xFF\xFF\xFF",
         6,
         1,
-    );
+    )
 }
 
-pub fn show() {
-    say::text(b"# reader\n");
-    replies();
-    refusals();
-    silence();
+pub fn show(rt: &impl Print) -> io::Result<()> {
+    say::text(rt, b"# reader\n")?;
+    replies(rt)?;
+    refusals(rt)?;
+    silence(rt)
 }

@@ -1,29 +1,30 @@
 // The wake rule, over a clock that runs past its end.
+use std::io;
 
-fn case(n: u32, last: u32, clock: u32) {
+fn case(rt: &impl Print, n: u32, last: u32, clock: u32) -> io::Result<()> {
     let wake = wake::wait(n, last, clock);
-    say::text(b"wake ");
-    say::decimal(n as u64);
-    say::text(b" ");
-    say::decimal(last as u64);
-    say::text(b" ");
-    say::decimal(clock as u64);
-    say::text(b" : ");
-    say::decimal(wake.number as u64);
-    say::text(b" ");
-    say::decimal(wake.wait as u64);
-    say::line();
+    say::text(rt, b"wake ")?;
+    say::decimal(rt, n as u64)?;
+    say::text(rt, b" ")?;
+    say::decimal(rt, last as u64)?;
+    say::text(rt, b" ")?;
+    say::decimal(rt, clock as u64)?;
+    say::text(rt, b" : ")?;
+    say::decimal(rt, wake.number as u64)?;
+    say::text(rt, b" ")?;
+    say::decimal(rt, wake.wait as u64)?;
+    say::line(rt)
 }
 
-pub fn show() {
-    say::text(b"# wake\n");
-    case(16, 4294967000, 4003);
-    case(16, 4294967000, 4004);
-    case(0, 0, 0);
-    case(17, 0, 5000);
-    case(1, 0, 4299);
-    case(1, 0, 4300);
-    case(1, 5, 4);
-    case(16, 0, 4294967295);
-    case(4294967295, 0, 0);
+pub fn show(rt: &impl Print) -> io::Result<()> {
+    say::text(rt, b"# wake\n")?;
+    case(rt, 16, 4294967000, 4003)?;
+    case(rt, 16, 4294967000, 4004)?;
+    case(rt, 0, 0, 0)?;
+    case(rt, 17, 0, 5000)?;
+    case(rt, 1, 0, 4299)?;
+    case(rt, 1, 0, 4300)?;
+    case(rt, 1, 5, 4)?;
+    case(rt, 16, 0, 4294967295)?;
+    case(rt, 4294967295, 0, 0)
 }

@@ -1,52 +1,53 @@
 // The check words that the data sheets and document 01 print, and document 01's table entries.
+use std::io;
 
-fn word(bytes: &[u8]) {
-    say::text(b"pec ");
-    say::bytes(bytes);
-    say::text(b" ");
-    say::hex(pec::pec(bytes) as u32, 4);
-    say::line();
+fn word(rt: &impl Print, bytes: &[u8]) -> io::Result<()> {
+    say::text(rt, b"pec ")?;
+    say::bytes(rt, bytes)?;
+    say::text(rt, b" ")?;
+    say::hex(rt, pec::pec(bytes) as u32, 4)?;
+    say::line(rt)
 }
 
-fn entry(index: u8) {
+fn entry(rt: &impl Print, index: u8) -> io::Result<()> {
     let table = pec::table();
-    say::text(b"entry ");
-    say::decimal(index as u64);
-    say::text(b" ");
-    say::hex(table[index as usize] as u32, 4);
-    say::line();
+    say::text(rt, b"entry ")?;
+    say::decimal(rt, index as u64)?;
+    say::text(rt, b" ")?;
+    say::hex(rt, table[index as usize] as u32, 4)?;
+    say::line(rt)
 }
 
-pub fn show() {
-    say::text(b"# check words\n");
-    word(b"");
-    word(b"\x00");
-    word(b"\x00\x01");
-    word(b"\xFE\xF5");
-    word(b"\x0E");
-    word(b"\x0F");
-    word(b"\xFE\xF3");
-    word(b"\x00\x16");
-    word(b"\x17\x00");
-    word(b"\x00\x17");
-    word(b"\x11\x12");
-    word(b"\x00\x01\x0E");
-    word(b"\xFB\x60");
-    word(b"\xF8\x04");
-    word(b"\x01\x00\x00\x00\x00\x00");
-    word(b"\xE8\x18\x0F\x0F\x0F\x0F");
-    word(b"\x00\x00\x00\x00\x00\x00");
-    word(b"\x61\x0F\x0F\x0F\x0F\x0F");
-    word(b"\xE7\x18\x0F\x0F\x0F\x0F");
-    word(b"\x1A\xE7\x0F\x0F\x0F\x0F");
-    word(b"\x01");
-    word(b"\x20");
-    word(b"\x00\x00");
-    word(b"\x00\x02");
-    word(b"\x00\x04");
-    word(b"\x07\x11");
-    say::text(b"# table entries\n");
-    entry(1);
-    entry(2);
-    entry(128);
+pub fn show(rt: &impl Print) -> io::Result<()> {
+    say::text(rt, b"# check words\n")?;
+    word(rt, b"")?;
+    word(rt, b"\x00")?;
+    word(rt, b"\x00\x01")?;
+    word(rt, b"\xFE\xF5")?;
+    word(rt, b"\x0E")?;
+    word(rt, b"\x0F")?;
+    word(rt, b"\xFE\xF3")?;
+    word(rt, b"\x00\x16")?;
+    word(rt, b"\x17\x00")?;
+    word(rt, b"\x00\x17")?;
+    word(rt, b"\x11\x12")?;
+    word(rt, b"\x00\x01\x0E")?;
+    word(rt, b"\xFB\x60")?;
+    word(rt, b"\xF8\x04")?;
+    word(rt, b"\x01\x00\x00\x00\x00\x00")?;
+    word(rt, b"\xE8\x18\x0F\x0F\x0F\x0F")?;
+    word(rt, b"\x00\x00\x00\x00\x00\x00")?;
+    word(rt, b"\x61\x0F\x0F\x0F\x0F\x0F")?;
+    word(rt, b"\xE7\x18\x0F\x0F\x0F\x0F")?;
+    word(rt, b"\x1A\xE7\x0F\x0F\x0F\x0F")?;
+    word(rt, b"\x01")?;
+    word(rt, b"\x20")?;
+    word(rt, b"\x00\x00")?;
+    word(rt, b"\x00\x02")?;
+    word(rt, b"\x00\x04")?;
+    word(rt, b"\x07\x11")?;
+    say::text(rt, b"# table entries\n")?;
+    entry(rt, 1)?;
+    entry(rt, 2)?;
+    entry(rt, 128)
 }
