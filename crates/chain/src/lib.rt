@@ -14,7 +14,7 @@ use frames::commands;
 use frames::commands::Command;
 
 #[repr(C)]
-#[derive(Drop)]
+#[derive(Clone, Copy)]
 pub struct Heard {
     pub number: u8,
     pub word: u16,

@@ -42,14 +42,14 @@ pub struct Fields {
 }
 
 #[repr(C)]
-#[derive(Drop)]
+#[derive(Clone, Copy)]
 pub struct Code {
     pub number: u8,
     pub code: u16,
 }
 
 #[repr(C)]
-#[derive(Drop)]
+#[derive(Clone, Copy)]
 pub struct Conversion {
     pub number: u8,
     pub command: u32,

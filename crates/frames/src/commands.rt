@@ -28,7 +28,7 @@ pub const CLEAR: u8 = 3;
 
 pub const CONVERSION: u8 = 4;
 
-#[derive(Drop)]
+#[derive(Clone, Copy)]
 pub struct Command {
     pub kind: u8,
     pub group: u8,

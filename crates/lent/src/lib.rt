@@ -7,7 +7,7 @@ ghost use Rattle.lent.specs.Memory.{over};
 
 // What a writer came to: its number, and how many bytes of the output it wrote.
 #[repr(C)]
-#[derive(Drop)]
+#[derive(Clone, Copy)]
 pub struct Written {
     pub number: u8,
     pub length: usize,

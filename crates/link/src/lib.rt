@@ -4,7 +4,7 @@ ghost use Rattle.pec.specs.Noise.{noisy};
 ghost use Rattle.link.specs.Carry.{Carries};
 
 // The writer's number; the chain's number and word; the reader's number.
-#[derive(Drop)]
+#[derive(Clone, Copy)]
 pub struct Carried {
     pub made: u8,
     pub number: u8,

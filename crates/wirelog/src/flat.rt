@@ -5,7 +5,7 @@ use crate::record;
 use crate::record::Found;
 
 #[repr(C)]
-#[derive(Drop)]
+#[derive(Clone, Copy)]
 pub struct FlatRecord {
     pub number: u8,
     pub end: u8,

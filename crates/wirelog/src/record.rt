@@ -4,7 +4,7 @@ ghost use Rattle.wirelog.specs.Found.{whole_at, FindsAt};
 
 use crate::kinds;
 
-#[derive(Drop)]
+#[derive(Clone, Copy)]
 pub enum Found {
     // kind 1 to 4; where the body lies in the log, and how long it is
     Record {

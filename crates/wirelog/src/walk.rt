@@ -7,7 +7,7 @@ use crate::record::Found;
 use crate::{kinds, record};
 
 #[repr(C)]
-#[derive(Drop)]
+#[derive(Clone, Copy)]
 pub struct Walked {
     // why the walk stopped: 0 at the end, or the refusal
     pub number: u8,
