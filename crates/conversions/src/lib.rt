@@ -60,6 +60,7 @@ pub struct Conversion {
 }
 
 // The 13 rows. A constant array is copied wherever it is named: call this once, and lend the rows down.
+#[tactic(auto, unfolding(crate::specs::Conversions::patterns, crate::specs::Packed::packed, crate::specs::Packed::packed_patterns))]
 fn patterns() -> [u32; 13]
     ensures { result ≡ packed_patterns }
 {
@@ -82,6 +83,7 @@ fn pattern_at(rows: &[u32; 13], command: usize) -> Pattern
 }
 
 // Whether every field is in its range.
+#[tactic(auto, unfolding(crate::specs::Conversions::within))]
 fn are_within(p: Pattern, f: Fields) -> bool
     ensures { result ≡ within p f }
 {
@@ -100,6 +102,7 @@ fn are_within(p: Pattern, f: Fields) -> bool
     f.choice <= p.most
 }
 
+#[tactic(auto, unfolding(crate::specs::Conversions::weighed, lent::specs::Refusal::pick))]
 fn weigh(sort: u32, choice: u32) -> u32
     requires { choice < 8 }
     ensures { result ≡ weighed sort choice }
@@ -108,6 +111,7 @@ fn weigh(sort: u32, choice: u32) -> u32
 }
 
 // The code of fields that are in their ranges.
+#[tactic(auto, using(crate::proofs::ConversionLaws::weighed_small), unfolding(crate::specs::Conversions::code_by))]
 fn code_by(p: Pattern, f: Fields) -> u32
     requires { (p.base < 2048) × (f.mode < 4) × (f.discharge < 2) × (f.pull_up < 2) × (f.choice < 8) }
     ensures { result ≡ code_by p f }
@@ -115,6 +119,7 @@ fn code_by(p: Pattern, f: Fields) -> u32
     p.base + 0x80 * f.mode + 0x10 * f.discharge + 0x40 * f.pull_up + weigh(p.sort, f.choice)
 }
 
+#[tactic(auto, unfolding(crate::specs::Conversions::choice_in, lent::specs::Refusal::pick))]
 fn choice_in(sort: u32, code: u32) -> u32
     ensures { result ≡ choice_in sort code }
 {
@@ -125,6 +130,7 @@ fn choice_in(sort: u32, code: u32) -> u32
 }
 
 // What stands in a code where a command has its fields.
+#[tactic(auto, unfolding(crate::specs::Conversions::fields_by))]
 fn fields_by(p: Pattern, code: u32) -> Fields
     requires { (p.dcp < 2) × (p.pup < 2) }
     ensures { result ≡ fields_by p code }
