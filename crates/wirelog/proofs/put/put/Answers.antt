@@ -16,16 +16,16 @@ pub returns-then-out-length : goal.returns-then-out-length
 returns-then-out-length c =
     let known = sym c.if-not-is_known.ensures in
     let within = sym c.if-not-is_within.ensures in
-    refused _ _ _ 4 (output_short _ _ _ known within c.if-out-length.true)
+    refused _ _ _ 4 (output_short _ _ _ known within (omega arith))
 
 pub put_record-requires : goal.put_record-requires
 put_record-requires c =
     let known = sym c.if-not-is_known.ensures in
     let within = sym c.if-not-is_within.ensures in
-    (omega (arith, known_most _ known), omega (arith, within_most _ _ within), c.if-out-length.false)
+    (omega (arith, known_most _ known), omega (arith, within_most _ _ within), omega arith)
 
 pub returns : goal.returns
 returns c =
     let known = sym c.if-not-is_known.ensures in
     let within = sym c.if-not-is_within.ensures in
-    done _ _ _ _ (none _ _ _ known within c.if-out-length.false) c.put_record.ensures
+    done _ _ _ _ (none _ _ _ known within (omega arith)) c.put_record.ensures
