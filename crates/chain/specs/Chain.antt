@@ -16,11 +16,11 @@ code_of frame = get_or frame 0 0 * 256 + get_or frame 1 0
 
 -- The number: the first that applies (01, "Numbers a call can come back with", Chain; 3 as 02, K5, has it).
 unfoldable pub chain_number : ℕ → List ℕ → List ℕ → ℕ → ℕ
-chain_number n frame state replyLen =
+chain_number n frame state reply_len =
     first
     ((outside n, 1)  -- N not 1..16
     ∷ (not (eqb (length state) (state_length n)) || pin_above n state, 3)  -- state not 109N, or a pin byte above 1
-    ∷ (ltb replyLen (length frame), 5)  -- reply below L
+    ∷ (ltb reply_len (length frame), 5)  -- reply below L
     ∷ (ltb (length frame) 4, 6)  -- under 4 bytes
     ∷ (not (right (take 4 frame)), 4)  -- command PEC wrong
     ∷ (is_unknown (kind_of (code_of frame)), 2)  -- command unknown

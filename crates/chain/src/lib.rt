@@ -1,5 +1,6 @@
 // The chain: a model of 1 to 16 devices, their registers in lent state.
 #![tactic(auto)]
+
 ghost use Rattle.std.specs.Prelude.{◌≡◌, ◌+◌, ◌-◌, ◌^◌, ◌<◌, ◌≤◌, length, false};
 ghost use Rattle.lent.specs.Memory.{over};
 ghost use Rattle.lent.specs.Refusal.{pick};

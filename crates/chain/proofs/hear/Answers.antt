@@ -1,6 +1,5 @@
 -- `chain::hear` meets the chain's record: each return by the law of its number. Assumes nothing.
 use Rattle.std.proofs.Common.{refl, sym, ◌∙◌, arith}
-use borrow.Author.Tests.{not-true, not-false}
 use Rattle.frames.proofs.Lookup.{group_below}
 use Rattle.frames.proofs.Sizes.{at_most}
 use Rattle.registers.specs.Effect.{silence}
