@@ -1,6 +1,6 @@
 # make run       a controller in C polls a chain over a noisy wire (ARGS='--noise wild'; ARGS=--help lists what there is)
 # make showlog   print a wire log that a controller wrote, a line a record (LOG=FILE; make run ARGS='--log FILE' writes one)
-# make test      every test and every proof, from nothing; the last line is rt's 'N passed, M failed'
+# make test      every test and every proof; the last line is rt's 'N passed, M failed'
 # make lib       build/librig.a, the C entries of include/rig.h, from the proved crates
 # make dist      build/dist/rig.c and rig.h, the same entries as C99 for any processor, printed from the proved code
 # make test-arm  the C tests of rig.c on 32-bit Arm, and its size and stack on a Cortex-M4; make test-powerpc on a big-endian processor
@@ -22,7 +22,11 @@ X86_64 := build/x86-64/librig.a
 ON_X86_64 := $(filter x86_64,$(shell uname -m))
 SECOND := build/bench/release/libsecond_c.a
 C99 := gcc -std=c99 -O2 $(CHECKED)
-SOURCES := crates.txt $(shell find $(addprefix crates/,lent pec conversions frames registers chain host cells tally wake wirelog capi) -name '*.rt' -o -name '*.antt')
+# The crates that the archive and rig.c come from. `rt lib` in one proves it and those below it, and leaves what it makes in its out/: of a library what
+# the crates above read and the MIR of what was proved, of capi_c, whose functions are C's entries, the archive.
+CRATES := lent pec conversions frames registers chain host cells tally wake wirelog capi
+SOURCES := crates.txt $(shell find $(addprefix crates/,$(CRATES) capi_c) -name out -prune -o '(' -name '*.rt' -o -name '*.antt' ')' -print)
+RLIBS = $(foreach crate,$(CRATES),crates/$(crate)/out/rlib/$(crate).rlib) $(wildcard $(dir $(shell rt doc))rlibs/*.rlib)
 
 # What the tests run against: a library, where they put what they build, what builds and links them, and how long they fuzz.
 LIB ?= $(ARCHIVE)
@@ -55,7 +59,10 @@ build/showlog: $(SHOWLOG) examples/names.h include/rig.h $(ARCHIVE)
 
 test: need second header $(if $(ON_X86_64),,test-x86-64) against printed builds dist_alone cost
 	@echo '== rt ci: prove every crate, try every must-fail edit, run every program'
-	@rt ci
+	@mkdir -p build
+	@bash -o pipefail -c 'rt ci 2>&1 | tee build/ci.log'
+	@grep '^rt: ok; ' build/ci.log | grep -v ' refused[^;]*, [0-9]* bad' | grep -q '; must-fail edits: [0-9]* refused' || \
+	    { echo 'test: rt ci does not say that every must-fail edit was refused (build/ci.log)' >&2; exit 1; }
 
 need:
 	@tools/need
@@ -69,18 +76,16 @@ $(ARCHIVE): $(if $(ON_X86_64),$(X86_64),build/c/gcc-O2/librig.a)
 $(X86_64): $(SOURCES) | need
 	@echo '== archive: prove what it holds, and compile it for x86-64'
 	@mkdir -p $(@D)
-	@bash -o pipefail -c '{ rt check capi && rt staticlib capi; } 2>&1 | tee build/lib.log | grep --line-buffered "^rt:" | grep --line-buffered -v unchanged' || { tail -40 build/lib.log; exit 1; }
-	@cp target/staticlib/libcapi.a $@
+	@bash -o pipefail -c '(cd crates/capi_c && rt lib) 2>&1 | tee build/lib.log | { grep --line-buffered "^crate " || true; }' || { tail -40 build/lib.log; exit 1; }
+	@cp crates/capi_c/out/libcapi_c.a $@
 
 # The proved MIR as C99. Every function that is printed, and every type, is held to the MIR of its proved crate.
-$(RIG_C): $(SOURCES) include/rig.h tools/mir2c tools/declared.py $(wildcard tools/printer/*.py) build/revision | need
+$(RIG_C): $(SOURCES) include/rig.h tools/mir tools/mir2c tools/declared.py $(wildcard tools/printer/*.py) build/revision | need
 	@echo '== rig.c: prove what is printed, and print it'
-	@rt check capi > build/check.log 2>&1 || { tail -40 build/check.log; exit 1; }
-	@rt mir capi > build/capi.mir 2> build/mir.log || { tail -40 build/mir.log; exit 1; }
-	@tools/mir2c build/capi.mir include/rig.h "$$(rt version)" "$$(cat build/revision)" target/rlib/*.rlib $(KIT_RLIBS) > $@.new
+	@(cd crates/capi && rt lib) > build/check.log 2>&1 || { tail -40 build/check.log; exit 1; }
+	@tools/mir $(RLIBS) > build/capi.mir
+	@tools/mir2c build/capi.mir include/rig.h "$$(rt version)" "$$(cat build/revision)" $(RLIBS) > $@.new
 	@mv $@.new $@
-
-KIT_RLIBS = $(wildcard $(patsubst %/docs/,%,$(dir $(shell rt doc)))/on/$(shell uname -m)/rlib/*.rlib)
 
 build/revision: FORCE
 	@mkdir -p build
@@ -124,8 +129,9 @@ printed: $(RIG_C)
 	@echo '== rig.c: no warning as C99 and C11, nothing found by cppcheck, the same bytes when printed again'
 	@for cc in gcc clang; do for std in c99 c11; do $$cc -std=$$std -O2 $(CHECKED) -Wconversion -c $(RIG_C) -o build/c.o || exit 1; done; done
 	@cppcheck --quiet --std=c99 --enable=warning,portability,performance --error-exitcode=1 --suppress=missingIncludeSystem -Iinclude $(RIG_C)
-	@tests/mir2c build/capi.mir include/rig.h target/rlib/*.rlib $(KIT_RLIBS)
-	@rt mir capi 2> build/mir.log | cmp - build/capi.mir
+	@(cd crates/capi && rt lib) > build/check.log 2>&1 || { tail -40 build/check.log; exit 1; }
+	@tests/mir2c build/capi.mir include/rig.h $(RLIBS)
+	@tools/mir $(RLIBS) | cmp - build/capi.mir
 
 # Every test against each build of rig.c, in three lanes of which two run at a time. Each lane builds second/ in a folder of its own.
 builds: $(RIG_C) $(SECOND) build/readme.c
@@ -281,6 +287,6 @@ $(SECOND): $(wildcard bench/second/Cargo.* bench/second/src/*.rs second/Cargo.* 
 	@cargo build --offline --quiet --release --manifest-path bench/second/Cargo.toml --target-dir build/bench
 
 fmt:
-	rt fmt
+	@for crate in crates/*; do echo "rt fmt in $$crate" && (cd $$crate && rt fmt) || exit 1; done
 	cargo fmt --manifest-path second/Cargo.toml
 	cargo fmt --manifest-path bench/second/Cargo.toml

@@ -8,9 +8,10 @@ is for that variant, so that no part of C's union is read but the one that was s
 from printer.constants import constants, operands, target, through
 from printer.mir import NoRule, arms, chain, head, items, simple, statements
 from printer.slices import PARTS, is_slice, names, split, variables
-from printer.types import record_name, symbol
+from printer.types import is_nothing, record_name, symbol
 
-ARITHMETIC = {"add": "+", "sub": "-", "mul": "*", "div": "/", "rem": "%", "and": "&", "or": "|", "xor": "^", "shl": "<<", "shr": ">>"}
+ARITHMETIC = {"add": "+", "sub": "-", "mul": "*", "div": "/", "rem": "%", "and": "&", "or": "|", "xor": "^", "shl": "<<", "shr": ">>",
+              "wrapSub": "-"}
 COMPARISON = {"eq": "==", "ne": "!=", "lt": "<", "le": "<="}
 LOGIC = {"and": "&&", "or": "||", "xor": "!="}
 INDENT = "    "
@@ -24,13 +25,16 @@ class Function:
     def __init__(self, name, functions, types, tables):
         """`tables` has the constant tables of the file by what they hold: {(type, numbers): name}."""
         item = functions[name]
-        self.name, self.types = name, types
+        self.name, self.types, self.all_tables = name, types, tables
         self.parameters, self.kinds = item[3], [local[1] for local in items(item[4])]
         self.body = split(item[5], self.kinds)
         self.tables = {}
         for local, numbers in constants(item, functions).items():
-            self.tables[local] = tables.setdefault((types.c(self.kinds[local]), numbers), f"table{len(tables)}")
+            self.tables[local] = self.table(self.kinds[local], numbers)
         self.live, self.printed, self.matched = self.read_somewhere(), set(), {}
+
+    def table(self, kind, numbers):
+        return self.all_tables.setdefault((self.types.c(kind), numbers), f"table{len(self.all_tables)}")
 
     def read_somewhere(self):
         """The variables that a printed statement reads: what only sets another is not printed."""
@@ -48,9 +52,9 @@ class Function:
         if head(form) not in ("assign", "call") or target(form)[1] in self.tables:
             return []
         to = target(form)
-        if form[0] == "assign" and not through(to) and not live.intersection(names(to, self.kinds)):
+        if form[0] == "assign" and (self.has_nothing(to) or not through(to) and not live.intersection(names(to, self.kinds))):
             return []
-        places = [x[1] for x in operands(form) if head(x) == "copy"] + ([to] if through(to) else [])
+        places = [x[1] for x in operands(form) if head(x) == "copy" and not self.has_nothing(x[1])] + ([to] if through(to) else [])
         return places + ([form[2][1]] if form[0] == "assign" and form[2][0] == "addrOf" else [])
 
     def calls(self):
@@ -60,6 +64,13 @@ class Function:
         return [callee(form) for form in calls if form[3][1] not in self.tables], tables
 
     # ---- places and operands
+
+    def has_nothing(self, place):
+        """Whether a local, or what lies behind an address, is a unit or the address of one."""
+        steps = items(place[2])
+        if not steps:
+            return is_nothing(self.kinds[place[1]])
+        return steps[-1][0] == "deref" and is_nothing(steps[-1][1])
 
     def place(self, form):
         """A place as (C, type)."""
@@ -155,7 +166,7 @@ class Function:
         if form[0] == "aggregate" and self.types.is_enum(kind):
             return self.variant(items(form[1]), kind)
         if form[0] == "aggregate":
-            inside = ", ".join(self.operand(x)[0] for x in items(form[1]))
+            inside = ", ".join(text for x in items(form[1]) for text in self.argument(x))
             return f"({self.types.c(kind)}){{{f'{{{inside}}}' if head(kind) == 'tyArray' else inside}}}"
         raise NoRule("the value", form)
 
@@ -172,10 +183,10 @@ class Function:
 
     def assign(self, to, value):
         self.hold_target(to)
-        if to[1] in self.tables or not (through(to) or self.live.intersection(names(to, self.kinds))):
+        if to[1] in self.tables or self.has_nothing(to) or not (through(to) or self.live.intersection(names(to, self.kinds))):
             return []
         text, kind = self.place(to)
-        if kind == "tyUnit":
+        if is_nothing(kind):
             return []
         if value[0] == "repeat":
             if head(value[1]) != "int":
@@ -203,8 +214,25 @@ class Function:
         return [f"{self.place(to)[0]} = {text}" if f"v{to[1]}" in self.live else f"(void){text}"]
 
     def argument(self, form):
+        """What stands in C for an operand: of a slice its two variables, of a unit nothing."""
+        if form == "unit" or (head(form) == "copy" and self.has_nothing(form[1])):
+            return []
         text, kind = self.operand(form)
+        if is_nothing(kind):
+            return []
         return [f"{text}_{part}" for part in PARTS] if is_slice(kind) else [text]
+
+    def lend_static(self, to, kind, numbers):
+        """Static memory: an array of numbers that is lent, and so only read."""
+        array, (_, width, values) = self.kinds[to[1]], numbers
+        if to[2] != "lnil" or head(array) != "tyRef" or array[2:] != ["imm", kind] or numbers[0] != "ints":
+            raise NoRule("static memory that is lent as", [to, array])
+        values = tuple(items(values))
+        if kind != ["tyArray", ["tyInt", width], ["lenLit", len(values)]] or any(n >= 2**width for n in values):
+            raise NoRule("static memory whose numbers are not of", kind)
+        if f"v{to[1]}" not in self.live:
+            return []
+        return [f"{self.place(to)[0]} = (byte *)&{self.table(kind, values)};"]
 
     def choice(self, form, around):
         test = self.operand(form[1])[0]
@@ -259,8 +287,12 @@ class Function:
             return self.choice(form, around)
         if word == "switch":
             return self.match(form, around)
-        if word == "block" and [head(x) for x in statements(form[1])] == ["loop"]:
-            return self.statement(form[1], around + ["block"])
+        if word == "lendStatic":
+            return self.lend_static(*form[1:])
+        if word == "block":  # one that is more than a loop is no place to leave: `break` would go on behind the loop, within it
+            inside = statements(form[1])
+            around = around + ["block" if [head(x) for x in inside] == ["loop"] else "part"]
+            return [line for inner in inside for line in self.statement(inner, around)]
         if word == "loop":
             return ["for (;;) {"] + self.block(form[1], around + ["loop"]) + ["}"]
         if word == "exit":
@@ -276,12 +308,16 @@ class Function:
     def declared(self, local):
         """The variables of a local as (C type, name)."""
         kind = self.kinds[local]
+        if is_nothing(kind):
+            return []
         if is_slice(kind):
             return list(zip(("byte *", "uint64_t "), variables(local, kind)))
         c = self.types.c(kind)
         return [(c if c.endswith("*") else f"{c} ", f"v{local}")]
 
     def prototype(self):
+        if is_nothing(self.kinds[0]) and self.kinds[0] != "tyUnit":
+            raise NoRule("a result that is", self.kinds[0])
         inside = ", ".join(f"{c}{name}" for local in range(1, self.parameters + 1) for c, name in self.declared(local))
         return f"static {self.types.c(self.kinds[0])} {symbol(self.name)}({inside or 'void'})"
 
@@ -289,7 +325,7 @@ class Function:
         """The declarations, a line a type."""
         lines = {}
         for local, kind in enumerate(self.kinds):
-            if kind != "tyUnit" and local not in self.tables and not 1 <= local <= self.parameters:
+            if local not in self.tables and not 1 <= local <= self.parameters:
                 for c, name in self.declared(local):
                     if name in self.printed:
                         lines.setdefault(c.rstrip(" *"), []).append(f"*{name}" if c.endswith("*") else name)

@@ -1,4 +1,4 @@
-"""The MIR that `rt mir` prints, read into nested lists, and the forms of it that there are rules for.
+"""The MIR that tools/mir prints, read into nested lists, and the forms of it that there are rules for.
 
 A form is a word with its arguments: `(place 3 lnil)` is ["place", 3, "lnil"], a name stays in its quotes.
 """
@@ -6,11 +6,11 @@ import re
 
 ARGUMENTS = {
     0: "skip return true false unit tyBool tyPtr tyUnit lnil tnil ttnil imm mut erased unsigned valueLocal memorySlot"
-    " noDefault and or xor not eq ne shl offset",
+    " noDefault and or xor not eq ne shl offset wrapSub",
     1: "tyInt tyNamed lenLit named deref field variant copy add sub mul div rem shr lt le rvOpd addrOf aggregate block loop exit"
     " direct fnRef fields variants",
-    2: "lcons tcons ttcons local tyArray tyStruct pair place int op1 repeat seq assign switch",
-    3: "tyRef cast op2 if call arm",
+    2: "lcons tcons ttcons local tyArray tyStruct pair place int ints op1 repeat seq assign switch",
+    3: "tyRef cast op2 if call arm lendStatic",
     5: "fnItem",
 }
 KNOWN = {word: count for count, words in ARGUMENTS.items() for word in words.split()}

@@ -6,7 +6,12 @@ has a sister for use within, `struct inner_..`, with the same names.
 
 An enum of numbers is a record of its tag and a union, in which each variant that has fields is a record. It does not lie in memory
 as MIR's does, where each variant begins with the tag: so it is a local, a parameter or a result, and never behind an address.
+
+A unit has one value, and so has an address of a unit, for nothing else is read or stored there: C has neither. A field, a parameter
+or a local of such a type is left out.
 """
+import re
+
 from printer.mir import NoRule, head, items
 
 
@@ -15,7 +20,14 @@ def record_name(kind):
 
 
 def symbol(name):
-    return name.replace("::", "_")
+    """A name in C. That of an instance is without its types and impls: there may be one instance only."""
+    tuple_of, name = re.match(r"\((,+)\)", name), name.split("<")[0]
+    return f"tuple{len(tuple_of[1]) + 1}" if tuple_of else re.sub(r"\W+", "_", name)
+
+
+def is_nothing(kind):
+    """Whether a type has one value: the unit, or the address of one."""
+    return kind == "tyUnit" or (head(kind) == "tyRef" and is_nothing(kind[3]))
 
 
 class Types:
@@ -40,14 +52,17 @@ class Types:
         raise NoRule("the type", kind)
 
     def define(self, name, fields):
-        self.defined.setdefault(name, f"struct {name} {{ {'; '.join(fields)}; }};")
+        text = f"struct {name} {{ {'; '.join(fields)}; }};"
+        if self.defined.setdefault(name, text) != text:
+            raise NoRule("two types of one name in C,", name)
         return f"struct {name}"
 
     def record(self, name):
         c_name, spelled = self.given.get(name, (symbol(name), None))
         if spelled and self.agrees(name):
             return f"struct {c_name}"
-        return self.define(f"inner_{c_name}" if spelled else c_name, [f"{self.c(kind)} {field}" for field, kind in self.fields(name)])
+        fields = [f"{self.c(kind)} {field}" for field, kind in self.fields(name) if not is_nothing(kind)]
+        return self.define(f"inner_{c_name}" if spelled else c_name, fields)
 
     def agrees(self, name):
         """Whether C spells each field of a record of rig.h as MIR does."""
@@ -60,7 +75,7 @@ class Types:
             raise NoRule("the fields of", name)
         kinds = items(self.shape(name)[1])
         names = [field for _, field, _ in self.given[name][1]] if name in self.given else [f"f{i}" for i in range(len(kinds))]
-        if not kinds or len(names) != len(kinds) or "tyUnit" in kinds or any(self.is_enum(kind) for kind in kinds):
+        if all(map(is_nothing, kinds)) or len(names) != len(kinds) or any(self.is_enum(kind) for kind in kinds):
             raise NoRule("the fields of", name)
         return list(zip(names, kinds))
 

@@ -1,4 +1,4 @@
-// The C entries, one archive. Each is thin and carries the statement of the layer below; include/rig.h is their manual.
+// The C entries. Each is thin and carries the statement of the layer below; include/rig.h is their manual. Crate capi_c exports them to C.
 ghost use Rattle.pec.specs.Word.{CheckWord};
 ghost use Rattle.conversions.specs.Conversions.{Builds, TakesApart};
 ghost use Rattle.frames.specs.Writer.{Wrote};
@@ -21,48 +21,42 @@ use wirelog::flat::FlatRecord;
 use wirelog::walk::Walked;
 
 // The check word.
-#[unsafe(no_mangle)]
-pub extern "C" fn rig_pec(bytes: &[u8]) -> u16
+pub fn rig_pec(bytes: &[u8]) -> u16
     ensures { CheckWord bytes.now result }
 {
     pec::pec(bytes)
 }
 
 // The frame of a command.
-#[unsafe(no_mangle)]
-pub extern "C" fn rig_write(n: u32, code: u32, data: &[u8], out: &mut [u8]) -> Written
+pub fn rig_write(n: u32, code: u32, data: &[u8], out: &mut [u8]) -> Written
     ensures { Wrote n code «data».now out.old result out.new }
 {
     frames::writer::write(n, code, data, out)
 }
 
 // What a chain hears of a frame, and answers.
-#[unsafe(no_mangle)]
-pub extern "C" fn rig_chain(n: u32, frame: &[u8], state: &mut [u8], reply: &mut [u8]) -> Heard
+pub fn rig_chain(n: u32, frame: &[u8], state: &mut [u8], reply: &mut [u8]) -> Heard
     ensures { Serves n frame.now state.old reply.old result state.new reply.new }
 {
     chain::serve(n, frame, state, reply)
 }
 
 // What a reply holds.
-#[unsafe(no_mangle)]
-pub extern "C" fn rig_read(n: u32, code: u32, reply: &[u8], data: &mut [u8], marks: &mut [u8]) -> u8
+pub fn rig_read(n: u32, code: u32, reply: &[u8], data: &mut [u8], marks: &mut [u8]) -> u8
     ensures { HandsOut n code reply.now «data».old marks.old result «data».new marks.new }
 {
     host::reader::read(n, code, reply, data, marks)
 }
 
 // The cells of one device.
-#[unsafe(no_mangle)]
-pub extern "C" fn rig_cells(groups: &[u8], marks: &[u8]) -> Readings
+pub fn rig_cells(groups: &[u8], marks: &[u8]) -> Readings
     ensures { ReadsCells groups.now marks.now result }
 {
     cells::reading(groups, marks)
 }
 
 // The tally that the controller lends and finds updated: `tally::add` by value, stored back.
-#[unsafe(no_mangle)]
-pub extern "C" fn rig_tally_add(tally: &mut Tally, marks: &[u8]) -> u8
+pub fn rig_tally_add(tally: &mut Tally, marks: &[u8]) -> u8
     ensures { AddsLent tally.old marks.now result tally.new }
 {
     let added = tally::add(*tally, marks);
@@ -71,16 +65,14 @@ pub extern "C" fn rig_tally_add(tally: &mut Tally, marks: &[u8]) -> u8
 }
 
 // The wait before a frame.
-#[unsafe(no_mangle)]
-pub extern "C" fn rig_wake(n: u32, last: u32, clock: u32) -> Wake
+pub fn rig_wake(n: u32, last: u32, clock: u32) -> Wake
     ensures { Waits n last clock result }
 {
     wake::wait(n, last, clock)
 }
 
 // The code of a conversion command with its fields.
-#[unsafe(no_mangle)]
-pub extern "C" fn rig_conversion_code(
+pub fn rig_conversion_code(
     command: u32,
     mode: u32,
     discharge: u32,
@@ -93,32 +85,28 @@ pub extern "C" fn rig_conversion_code(
 }
 
 // The command and fields of a conversion code.
-#[unsafe(no_mangle)]
-pub extern "C" fn rig_conversion_of(code: u32) -> Conversion
+pub fn rig_conversion_of(code: u32) -> Conversion
     ensures { TakesApart code result }
 {
     conversions::conversion_of(code)
 }
 
 // A record of the wire log.
-#[unsafe(no_mangle)]
-pub extern "C" fn rig_log_put(kind: u32, body: &[u8], out: &mut [u8]) -> Written
+pub fn rig_log_put(kind: u32, body: &[u8], out: &mut [u8]) -> Written
     ensures { Puts kind body.now out.old result out.new }
 {
     wirelog::put::put(kind, body, out)
 }
 
 // The record at a place of a wire log.
-#[unsafe(no_mangle)]
-pub extern "C" fn rig_log_at(log: &[u8], place: usize) -> FlatRecord
+pub fn rig_log_at(log: &[u8], place: usize) -> FlatRecord
     ensures { LaysFlat log.now place result }
 {
     wirelog::flat::record_at(log, place)
 }
 
 // A whole wire log, record after record.
-#[unsafe(no_mangle)]
-pub extern "C" fn rig_log_walk(log: &[u8]) -> Walked
+pub fn rig_log_walk(log: &[u8]) -> Walked
     ensures { Walks log.now result }
 {
     wirelog::walk::walk(log)
