@@ -1,6 +1,6 @@
 -- The cell reading of one device: eighteen counts of 100 µV, a word of eighteen valid bits, and one of the cells that were not measured (02, K2). Cell c of
 -- 01 has the index c - 1 here. Assumes nothing.
-use Rattle.std.specs.Prelude.{ℕ, zero, suc, ◌+◌, ◌*◌, ◌/◌, ◌≡◌, Bool, not, ◌&&◌, List, [], ◌∷◌, ◌++◌, eqb, length, get_or, replicate}
+use Rattle.std.specs.Prelude.{ℕ, zero, suc, ◌*◌, ◌/◌, ◌≡◌, Bool, not, ◌&&◌, List, [], ◌∷◌, ◌++◌, eqb, length, get_or, replicate}
 use Rattle.lent.specs.LowFirst.{low_first_at}
 use Rattle.lent.specs.Refusal.{pick, first}
 use Rattle.lent.specs.Word.{bits_where}

@@ -3,7 +3,7 @@ ghost use Rattle.std.specs.Prelude.{◌≡◌, ◌<◌, ◌≤◌};
 ghost use Rattle.cells.specs.Extremes.{is_set, further, takes, outmost, Spans};
 
 // None where no cell is valid; else the lowest and the highest, each by its cell's number, from 1, and its count.
-#[derive(Drop)]
+#[derive(Clone, Copy)]
 pub enum Range {
     None,
     Between {

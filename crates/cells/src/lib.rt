@@ -1,4 +1,6 @@
 // The cell reading: eighteen counts of 100 µV from the six groups CVA to CVF of one device; in `extremes` the lowest and the highest.
+#![tactic(auto)]
+
 ghost use Rattle.std.specs.Prelude.{◌≡◌, ◌<◌, ◌^◌, length, replicate};
 ghost use Rattle.cells.specs.Cells.{count_at, read_at, ReadsCells};
 
@@ -11,7 +13,7 @@ const CLEARED: u16 = 65535;
 
 // In both words bit c - 1 speaks of cell c.
 #[repr(C)]
-#[derive(Drop)]
+#[derive(Clone, Copy)]
 pub struct Readings {
     pub number: u8,
     // of cells 1 to 18
