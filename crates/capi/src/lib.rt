@@ -1,4 +1,6 @@
 // The C entries. Each is thin and carries the statement of the layer below; include/rig.h is their manual. Crate capi_c exports them to C.
+#![tactic(auto)]
+
 ghost use Rattle.pec.specs.Word.{CheckWord};
 ghost use Rattle.conversions.specs.Conversions.{Builds, TakesApart};
 ghost use Rattle.frames.specs.Writer.{Wrote};

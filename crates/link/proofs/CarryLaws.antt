@@ -5,7 +5,7 @@ use Prim.Native.Nat.{ℕ}
 use Rattle.registers.proofs.StateLaws.{still_sound}
 use Rattle.link.specs.Rig.{ours}
 use Rattle.link.specs.Sending.{Sending}
-use Rattle.link.specs.Step.{Seen, step}
+use Rattle.link.specs.Step.{Seen}
 use Rattle.link.specs.Promise.{Obeys}
 use Rattle.link.specs.Carry.{seen, Carries, CodeObeys}
 use Rattle.link.specs.declared.Carried.{Carried}

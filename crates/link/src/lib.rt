@@ -1,5 +1,6 @@
 // The link: one frame over a noisy wire, from the writer through the chain to the reader.
 #![tactic(auto)]
+
 ghost use Rattle.std.specs.Prelude.{◌≡◌, min};
 ghost use Rattle.pec.specs.Noise.{noisy};
 ghost use Rattle.link.specs.Carry.{Carries};
