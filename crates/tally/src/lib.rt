@@ -1,4 +1,6 @@
 // The link tally: replies, groups read, groups wrong, groups silent, each a 32-bit count.
+#![tactic(auto)]
+
 ghost use Rattle.std.specs.Prelude.{◌≡◌, ◌+◌, ◌≤◌, true, false, length};
 ghost use Rattle.host.specs.Marks.{any_above, count_of};
 ghost use Rattle.tally.specs.Tally.{past, past_any, plus, counted, Adds};
@@ -6,7 +8,7 @@ ghost use Rattle.tally.specs.Tally.{past, past_any, plus, counted, Adds};
 use host::marks;
 
 #[repr(C)]
-#[derive(Drop)]
+#[derive(Clone, Copy)]
 pub struct Tally {
     pub replies: u32,
     pub read: u32,
@@ -15,7 +17,7 @@ pub struct Tally {
 }
 
 // The number, and the tally as it is to be.
-#[derive(Drop)]
+#[derive(Clone, Copy)]
 pub struct Added {
     pub number: u8,
     pub tally: Tally,
