@@ -1,4 +1,6 @@
 // The wake rule, over a 32-bit microsecond clock that runs past its end to 0.
+#![tactic(auto)]
+
 ghost use Rattle.std.specs.Prelude.{◌≡◌};
 ghost use Rattle.wake.specs.Wake.{gap_of, Waits};
 
@@ -10,7 +12,7 @@ const READY: u32 = 10;
 
 // The number, and the microseconds to wait before a frame.
 #[repr(C)]
-#[derive(Drop)]
+#[derive(Clone, Copy)]
 pub struct Wake {
     pub number: u8,
     pub wait: u32,
@@ -20,7 +22,7 @@ pub struct Wake {
 fn gap(last: u32, clock: u32) -> u32
     ensures { result ≡ gap_of last clock }
 {
-    std::num::wrapping_sub_u32(clock, last)
+    clock.wrapping_sub(last)
 }
 
 // The wait before a frame to a chain of n devices, whose last frame was at `last`.
