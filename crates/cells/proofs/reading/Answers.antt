@@ -10,14 +10,14 @@ use Rattle.cells.proofs.reading.Goals as goal
 use Rattle.cells.proofs.reading.Goals.{then-is_read+then-held, then-is_read+else-held, else-is_read}
 
 pub returns-then-groups-ne36 : goal.returns-then-groups-ne36
-returns-then-groups-ne36 c = groups_wrong _ _ _ c.refused.ensures c.if-groups-ne36.true
+returns-then-groups-ne36 c = groups_wrong _ _ _ c.refused.ensures (omega arith)
 
 pub returns-then-marks-ne6 : goal.returns-then-marks-ne6
-returns-then-marks-ne6 c = marks_wrong _ _ _ c.refused-then-marks-ne6.ensures c.if-groups-ne36.false c.if-marks-ne6.true
+returns-then-marks-ne6 c = marks_wrong _ _ _ c.refused-then-marks-ne6.ensures (omega arith) c.if-marks-ne6.true
 
 pub returns-then-any_above : goal.returns-then-any_above
 returns-then-any_above c =
-    mark_above _ _ _ c.refused-then-any_above.ensures c.if-groups-ne36.false c.if-marks-ne6.false (sym c.any_above.ensures ∙ c.if-any_above.true)
+    mark_above _ _ _ c.refused-then-any_above.ensures (omega arith) c.if-marks-ne6.false (sym c.any_above.ensures ∙ c.if-any_above.true)
 
 pub loop-cell-init : goal.loop-cell-init
 unfolding counts_of bits_where
@@ -55,4 +55,4 @@ loop-cell-preserved c =
 pub returns : goal.returns
 returns c =
     let l = c.loop-cell in
-    read _ _ c.if-groups-ne36.false c.if-marks-ne6.false (sym c.any_above.ensures ∙ c.if-any_above.false) l.cell _ _ _ (omega arith) l.invariant.1
+    read _ _ (omega arith) c.if-marks-ne6.false (sym c.any_above.ensures ∙ c.if-any_above.false) l.cell _ _ _ (omega arith) l.invariant.1

@@ -15,17 +15,10 @@ count_all-more-requires c = (at_most _ (sym c.outside.ensures ∙ c.if-outside.f
 
 pub returns-then-passes_any : goal.returns-then-passes_any
 returns-then-passes_any c =
-    refused_8 _ _ (sym c.outside.ensures ∙ c.if-outside.false) (sym c.any_above.ensures ∙ c.if-any_above.false) _
-    c.count_all-more.ensures
+    refused_8 _ _ (sym c.outside.ensures ∙ c.if-outside.false) (sym c.any_above.ensures ∙ c.if-any_above.false) _ c.count_all-more.ensures
     (sym c.passes_any.ensures ∙ c.if-passes_any.true)
-
-pub sum-requires : goal.sum-requires
-sum-requires c = sym c.passes_any.ensures ∙ c.if-passes_any.false
 
 pub returns : goal.returns
 returns c =
-    added _ _ (sym c.outside.ensures ∙ c.if-outside.false) (sym c.any_above.ensures ∙ c.if-any_above.false) _
-    c.count_all-more.ensures
-    _
-    (sym c.passes_any.ensures ∙ c.if-passes_any.false)
-    c.sum.ensures
+    added _ _ (sym c.outside.ensures ∙ c.if-outside.false) (sym c.any_above.ensures ∙ c.if-any_above.false) _ c.count_all-more.ensures _
+    (sym c.passes_any.ensures ∙ c.if-passes_any.false) c.sum.ensures

@@ -1,5 +1,5 @@
--- `tally::count`: what is counted, with the count of the marks left, is the count of all. Assumes nothing.
-use Rattle.std.proofs.Common.{◌≡◌, ◌≤◌, ◌+◌, ◌-◌, length, drop}
+-- `tally::count`. The loop's invariant: what is counted, with the count of the marks left, is the count of all. Assumes nothing.
+use Rattle.std.proofs.Common.{◌+◌, ◌-◌, ◌≡◌, ◌≤◌, length, drop}
 use Rattle.host.specs.Marks.{count_of}
 use Rattle.tally.proofs.count.Given as goal
 
