@@ -19,13 +19,13 @@ all_marks (suc k) reply = all_marks k reply ++ (mark_of (eight k reply) ∷ [])
 
 -- The number: the first that applies (01, "Numbers a call can come back with", Reader).
 unfoldable pub reader_number : ℕ → ℕ → ℕ → ℕ → ℕ → ℕ
-reader_number n code replyLen bytes_len marksLen =
+reader_number n code reply_len bytes_len marks_len =
     first
     ((outside n, 1)  -- N not 1..16
     ∷ (is_unknown (kind_of code), 2)  -- command unknown
     ∷ (not (is_read (kind_of code)), 7)  -- command is no read
-    ∷ (not (eqb replyLen (4 + 8 * n)), 3)  -- reply of the wrong length
-    ∷ (ltb bytes_len (6 * n) || ltb marksLen n, 5)  -- a lent output too short
+    ∷ (not (eqb reply_len (4 + 8 * n)), 3)  -- reply of the wrong length
+    ∷ (ltb bytes_len (6 * n) || ltb marks_len n, 5)  -- a lent output too short
     ∷ [])
 
 -- The lent bytes at exit: six for each device laid over them, and untouched on refusal.
