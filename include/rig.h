@@ -4,8 +4,9 @@
  *
  * Every entry is proved, for all inputs, to give the number, the values and the lent bytes that its page below states. It
  * never allocates, keeps nothing between calls, and needs under 2 KB of stack; two threads may call it at once, each on
- * its own buffers. Link with librig.a (pkg-config rig), which calls nothing but memset; or, for a processor other than
- * x86-64, compile rig.c beside this header: the proved code as C99, whose first comment says what is claimed of it.
+ * its own buffers. Link with librig.a (pkg-config rig), which calls nothing but memset and memmove; or, for a processor
+ * other than x86-64, compile rig.c beside this header: the proved code as C99, whose first comment says what is claimed of
+ * it.
  *
  * WORDS OF THE TRADE
  *   n        the devices of the chain, 1 to 16; device 1 is next to the controller

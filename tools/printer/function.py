@@ -156,7 +156,10 @@ class Function:
 
     def value(self, form, kind):
         if form[0] == "rvOpd":
-            return self.operand(form[1])[0]
+            text, held = self.operand(form[1])
+            if is_nothing(held):
+                raise NoRule("a unit for a", kind)
+            return text
         if form[0] == "op2":
             return self.binary(*form[1:])
         if form[0] == "op1":

@@ -104,7 +104,7 @@ def kind(form):
     if key == "Int":
         return ["tyInt", inside]
     if key == "Array":
-        return ["tyArray", kind(inside[0]), ["lenLit", parts(inside[1], {"Lit"}, "a length")["Lit"]]]
+        return ["tyArray", kind(inside[0]), ["lenLit", length(inside[1])]]
     if key == "Named":
         named = parts(inside[0], {"name", "lifetimes"}, "a named type")
         return ["tyNamed", ["pair", name(shown(form)), chain([lifetime(x) for x in named["lifetimes"]])]]
@@ -113,6 +113,10 @@ def kind(form):
     if key == "Struct":
         return ["tyStruct", name(inside[0]), kinds(inside[1])]
     raise NoRule("a proved type", form)
+
+
+def length(form):
+    return parts(form, {"Lit"}, "a length")["Lit"]
 
 
 def kinds(forms):
@@ -200,8 +204,8 @@ def value(form):
         return ["addrOf", place(inside)]
     if key == "Aggregate":
         return ["aggregate", chain([operand(x) for x in inside])]
-    if key == "Repeat" and isinstance(inside[1], int):
-        return ["repeat", operand(inside[0]), inside[1]]
+    if key == "Repeat":
+        return ["repeat", operand(inside[0]), length(inside[1])]
     if (key, len(inside)) in (("Op1", 2), ("Op2", 3)):
         return [word(key), operation(inside[0])] + [operand(x) for x in inside[1:]]
     raise NoRule("a proved value", form)
