@@ -6,7 +6,7 @@ import re
 
 ARGUMENTS = {
     0: "skip return true false unit tyBool tyPtr tyUnit lnil tnil ttnil imm mut erased unsigned valueLocal memorySlot"
-    " noDefault and or xor not eq ne shl offset wrapSub",
+    " noDefault and or xor not eq ne shl offset wrapSub static",
     1: "tyInt tyNamed lenLit named deref field variant copy add sub mul div rem shr lt le rvOpd addrOf aggregate block loop exit"
     " direct fnRef fields variants",
     2: "lcons tcons ttcons local tyArray tyStruct pair place int ints op1 repeat seq assign switch",
