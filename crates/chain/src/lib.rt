@@ -66,12 +66,14 @@ fn asked(frame: &[u8]) -> Command
     requires { 4 ≤ length frame.now }
     ensures { (result.kind ≡ kind_of (code_of frame.now)) × (result.group ≡ group_of (code_of frame.now)) }
 {
-    let codes = commands::CODES;
-    let kinds = commands::KINDS;
-    let groups = commands::GROUPS;
     let high = frame[0] as u32;
     let low = frame[1] as u32;
-    commands::find_in(&codes, &kinds, &groups, high * 256 + low)
+    commands::find_in(
+        &commands::CODES,
+        &commands::KINDS,
+        &commands::GROUPS,
+        high * 256 + low,
+    )
 }
 
 // A refusal that shows the silence of the wire, in as many bytes of the reply as the frame has.
@@ -92,8 +94,8 @@ fn hear(n: usize, frame: &[u8], state: &mut [u8], reply: &mut [u8]) -> Heard
     if length < 4 {
         return refuse(6, length, reply);
     }
-    let table = pec::table();
-    if !pec::is_command_right(&table, &frame[0..4]) {
+    let table = pec::lent_table();
+    if !pec::is_command_right(table, &frame[0..4]) {
         return refuse(4, length, reply);
     }
     let command = asked(frame);
@@ -106,7 +108,7 @@ fn hear(n: usize, frame: &[u8], state: &mut [u8], reply: &mut [u8]) -> Heard
     }
     let group = command.group as usize;
     lent::fill(&mut reply[0..4], 255);
-    let word = obey(&table, n, kind, group, frame, state, &mut reply[4..length]);
+    let word = obey(table, n, kind, group, frame, state, &mut reply[4..length]);
     Heard { number: 0, word }
 }
 

@@ -4,7 +4,7 @@ ghost use Rattle.frames.specs.Commands.{kind_of, group_of, unlisted};
 ghost use Rattle.frames.specs.Columns.{code_column, kind_column, group_column};
 
 // Row by row as document 01 has them: code, kind, and the group written or read; of a clear, the first group it sets.
-// A constant array is copied wherever it is named: name each column once, and lend it to `find_in`.
+// A constant array is copied wherever it is named, and not where it is lent: lend each column to `find_in`.
 pub const CODES: [u32; 26] = [
     0x001, 0x002, 0x024, 0x026, 0x004, 0x006, 0x008, 0x00A, 0x009, 0x00B, 0x00C, 0x00E, 0x00D,
     0x00F, 0x010, 0x012, 0x721, 0x722, 0x014, 0x016, 0x020, 0x022, 0x01C, 0x01E, 0x711, 0x712,
@@ -85,12 +85,9 @@ pub fn find_in(codes: &[u32], kinds: &[u8], groups: &[u8], code: u32) -> Command
     }
 }
 
-// The same, for a caller that has no columns.
+// The same, for a caller that lends no columns.
 pub fn find(code: u32) -> Command
     ensures { (result.kind ≡ kind_of code) × (result.group ≡ group_of code) }
 {
-    let codes = CODES;
-    let kinds = KINDS;
-    let groups = GROUPS;
-    find_in(&codes, &kinds, &groups, code)
+    find_in(&CODES, &KINDS, &GROUPS, code)
 }

@@ -30,11 +30,11 @@ fn put_frame(n: usize, code: u32, kind: u8, bytes: &[u8], out: &mut [u8])
     requires { (n ≤ 16) × (0 < kind) × (kind ≡ kind_of code) × (length bytes.now ≡ data_needed n kind) × (frame_length n kind ≤ length out.old) }
     ensures { out.new ≡ over (frame_of n code bytes.now) out.old }
 {
-    let table = pec::table();
-    groups::put_command(&table, code, &mut out[0..4]);
+    let table = pec::lent_table();
+    groups::put_command(table, code, &mut out[0..4]);
     let end = 4 + 8 * n;
     if kind == commands::WRITE {
-        groups::put_groups(&table, n, bytes, &mut out[4..end]);
+        groups::put_groups(table, n, bytes, &mut out[4..end]);
     } else if kind == commands::READ {
         lent::fill(&mut out[4..end], 255);
     }

@@ -81,8 +81,7 @@ fn read_groups(n: usize, reply: &[u8], bytes: &mut [u8], marks: &mut [u8])
 {
     let first = read_silent(n, reply, bytes, marks);
     if first < n {
-        let table = pec::table();
-        read_from(&table, first, n, reply, bytes, marks);
+        read_from(pec::lent_table(), first, n, reply, bytes, marks);
     }
 }
 

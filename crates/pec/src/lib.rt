@@ -33,11 +33,18 @@ const TABLE: [u16; 256] = [
     0x0ba7, 0x4e3e, 0x450c, 0x0095,
 ];
 
-// The 256 remainders. A constant array is copied wherever it is named: call this once a frame, and lend the table down.
+// The 256 remainders.
 pub fn table() -> [u16; 256]
     ensures { result ≡ remainders }
 {
     TABLE
+}
+
+// The same, lent: a constant array is copied wherever it is named, and this one stands in static memory. It is lent down from here.
+pub fn lent_table() -> &'static [u16; 256]
+    ensures { result.now ≡ remainders }
+{
+    &TABLE
 }
 
 // The register after one byte more.
@@ -108,8 +115,7 @@ pub fn pec_by(table: &[u16; 256], bytes: &[u8]) -> u16
 pub fn pec(bytes: &[u8]) -> u16
     ensures { CheckWord bytes.now result }
 {
-    let all = table();
-    pec_by(&all, bytes)
+    pec_by(lent_table(), bytes)
 }
 
 // How the word that a data group sends and the word of its six bytes differ, in 16 bits: 0 where the group is right.

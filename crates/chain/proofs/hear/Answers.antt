@@ -53,7 +53,7 @@ unfolding code_of
 obey-word-requires c =
     let code = code_of c.args.frame.now in
     let f = c.asked-command.ensures in (
-      c.table-table.ensures,
+      c.lent_table-table.ensures,
       at_most _ c.requires.0,
       omega arith,
       omega (arith, f.1, group_below code),

@@ -13,7 +13,7 @@ slice_bounds-put_command-end c = omega (arith, length_least c.args.n c.args.kind
 pub put_command-requires : goal.put_command-requires
 put_command-requires c =
     let a = c.args in
-    (c.table-table.ensures, omega (arith, known_below a.code (λ e. omega arith)), omega (arith, length_least a.n a.kind))
+    (c.lent_table-table.ensures, omega (arith, known_below a.code (λ e. omega arith)), omega (arith, length_least a.n a.kind))
 
 pub slice_bounds-put_groups-end : goal.slice_bounds-put_groups-end
 slice_bounds-put_groups-end c = omega (arith, length_long c.args.n c.args.kind (omega arith))
@@ -21,7 +21,7 @@ slice_bounds-put_groups-end c = omega (arith, length_long c.args.n c.args.kind (
 pub put_groups-requires : goal.put_groups-requires
 put_groups-requires c =
     let a = c.args in
-    (c.table-table.ensures, omega arith, omega (arith, needs_data a.n a.kind c.if-kind-eq-WRITE.true), omega (arith, length_long a.n a.kind (omega arith)))
+    (c.lent_table-table.ensures, omega arith, omega (arith, needs_data a.n a.kind c.if-kind-eq-WRITE.true), omega (arith, length_long a.n a.kind (omega arith)))
 
 pub slice_bounds-fill-end : goal.slice_bounds-fill-end
 slice_bounds-fill-end c = omega (arith, length_long c.args.n c.args.kind (omega arith))

@@ -7,7 +7,7 @@ use Rattle.host.proofs.reader.read_groups.Goals as goal
 pub read_from-requires : goal.read_from-requires
 read_from-requires c =
     let laid = c.read_silent-first.ensures in (
-      c.table-table.ensures,
+      c.lent_table.ensures,
       laid.0,
       c.requires.0,
       c.requires.1,
