@@ -156,7 +156,7 @@ one_reading c m d p ch c' m' d' p' ch' r r' B B' z z' e =
     ∙ ap apart e
     ∙ built_apart c' m' d' p' ch' r' B' z' (apart r'.code) (apart_apart r'.code)
 
--- THERE ARE 368 below 2048, and none above (`conversion-below`)
+-- THERE ARE 368 below 2048, and none above (`conversion_between`)
 abbrev pub counted : ℕ → ℕ
 counted zero = 0
 counted (suc k) = pick (is_conversion k) 1 0 + counted k

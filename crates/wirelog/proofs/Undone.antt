@@ -116,9 +116,9 @@ module _ (log : List ℕ) (place kind body len next : ℕ) (b : Bytes log) (e : 
 put_lawful : (kind : ℕ) (body out : List ℕ) → put_number kind body out ≡ 0 → lawful kind body ≡ true
 unfolding put_number lawful
 put_lawful kind body out e =
-    let is_Known = none_first (not (known kind)) 10 _ e in
-    let is_Within = none_first (not (within kind body)) 10 _ is_Known.1 in
-    rw (not-false (known kind) is_Known.0, not-false (within kind body) is_Within.0)
+    let is_known = none_first (not (known kind)) 10 _ e in
+    let is_within = none_first (not (within kind body)) 10 _ is_known.1 in
+    rw (not-false (known kind) is_known.0, not-false (within kind body) is_within.0)
 
 module _ (kind : ℕ) (body out : List ℕ) (r : Written) (out' : List ℕ) (w : Puts kind body out r out') (z : r.number ≡ 0) where
   zero : eqb (put_number kind body out) 0 ≡ true
