@@ -2,7 +2,7 @@
 field by field."""
 from printer.mir import NoRule, head
 from printer.slices import is_slice, lent
-from printer.types import record_name, symbol
+from printer.types import record_name
 
 LENT = """/* Lent memory. No null pointer goes in, for C has no null + 0. */
 static byte *lent(const uint8_t *at, size_t length) {
@@ -59,7 +59,7 @@ class Entry:
 
     def text(self):
         kind = self.function.kinds[0]
-        inner, call = self.types.c(kind), f"{symbol(self.function.name)}({self.arguments()});"
+        inner, call = self.types.c(kind), f"{self.types.functions(self.function.name)}({self.arguments()});"
         inside = ", ".join(f"{c}{name}" for c, name in self.parameters)
         if inner == self.result:
             lines = [f"    return {call}"]

@@ -1,17 +1,20 @@
-"""One function of the MIR in C: a statement for a statement, and every local keeps its number (v0 is the result).
+"""One function of the MIR in C: a statement for a statement but for moves (moves.py), and every local keeps its number (v0 is the
+result).
 
 What C leaves undefined and MIR does not is kept out here: arithmetic is done on unsigned numbers of at least 32 bits and cut down
 to MIR's width, so that nothing is done in `int`; a divisor is a constant other than 0; what is copied from behind one address to
 behind another is a number, since C forbids it for larger things that overlap; a variant's fields are read in the arm of a match that
-is for that variant, so that no part of C's union is read but the one that was set.
+is for that variant, of an enum that nothing sets meanwhile, so that no part of C's union is read but the one that was set. What MIR
+proves to be never reached is a jump to itself, which C gives a meaning.
 """
 from printer.constants import constants, operands, target, through
 from printer.mir import NoRule, arms, chain, head, items, simple, statements
-from printer.slices import PARTS, is_slice, names, split, variables
-from printer.types import is_nothing, record_name, symbol
+from printer.moves import Moves, flat
+from printer.slices import PARTS, is_slice, names, split
+from printer.types import are_alike, record_name
 
 ARITHMETIC = {"add": "+", "sub": "-", "mul": "*", "div": "/", "rem": "%", "and": "&", "or": "|", "xor": "^", "shl": "<<", "shr": ">>",
-              "wrapSub": "-"}
+              "wrapAdd": "+", "wrapSub": "-"}
 COMPARISON = {"eq": "==", "ne": "!=", "lt": "<", "le": "<="}
 LOGIC = {"and": "&&", "or": "||", "xor": "!="}
 INDENT = "    "
@@ -21,20 +24,36 @@ def callee(form):
     return form[1][1][1].strip('"')
 
 
+def reached(body):
+    """The statements of a body, but for those behind one that leaves it."""
+    forms = statements(body)
+    leaving = [i for i, form in enumerate(forms, 1) if head(form) in ("return", "exit", "unreachable")]
+    return forms[: leaving[0]] if leaving else forms
+
+
+class Level:
+    """A block or a loop that a statement is in: "loop", "around" a loop and nothing else, or "block"."""
+
+    def __init__(self, word):
+        self.word, self.label = word, None
+
+
 class Function:
     def __init__(self, name, functions, types, tables):
         """`tables` has the constant tables of the file by what they hold: {(type, numbers): name}."""
         item = functions[name]
         self.name, self.types, self.all_tables = name, types, tables
         self.parameters, self.kinds = item[3], [local[1] for local in items(item[4])]
-        self.body = split(item[5], self.kinds)
+        self.body = split(item[5], self.kind_of)
         self.tables = {}
         for local, numbers in constants(item, functions).items():
-            self.tables[local] = self.table(self.kinds[local], numbers)
-        self.live, self.printed, self.matched = self.read_somewhere(), set(), {}
+            self.tables[local] = self.table(self.kinds[local], (numbers,))
+        self.stored_in = self.lent_to_write()
+        self.body = Moves(self.kinds, self.parameters, types, set(self.tables)).without(self.body)
+        self.live, self.printed, self.matched, self.labels = self.read_somewhere(), set(), {}, 0
 
-    def table(self, kind, numbers):
-        return self.all_tables.setdefault((self.types.c(kind), numbers), f"table{len(self.all_tables)}")
+    def table(self, kind, values):
+        return self.all_tables.setdefault((self.types.c(kind), values), f"table{len(self.all_tables)}")
 
     def read_somewhere(self):
         """The variables that a printed statement reads: what only sets another is not printed."""
@@ -54,8 +73,17 @@ class Function:
         to = target(form)
         if form[0] == "assign" and (self.has_nothing(to) or not through(to) and not live.intersection(names(to, self.kinds))):
             return []
-        places = [x[1] for x in operands(form) if head(x) == "copy" and not self.has_nothing(x[1])] + ([to] if through(to) else [])
+        places = [x[1] for x in flat(operands(form)) if head(x) == "copy" and not self.has_nothing(x[1])] + ([to] if through(to) else [])
         return places + ([form[2][1]] if form[0] == "assign" and form[2][0] == "addrOf" else [])
+
+    def lent_to_write(self):
+        """The locals that have an address in something else than a `&` that may not write."""
+        found = set()
+        for form in simple(self.body):
+            if head(form) == "assign" and form[2][0] == "addrOf" and not through(form[2][1]):
+                holder = self.kind_of(form[1])
+                found.update([] if head(holder) == "tyRef" and holder[2] == "imm" else [form[2][1][1]])
+        return found
 
     def calls(self):
         """The functions that the printed text calls, and those that only gave a table."""
@@ -65,42 +93,52 @@ class Function:
 
     # ---- places and operands
 
+    def kind_of(self, place):
+        """The type of a place."""
+        return self.types.at(self.kinds[place[1]], items(place[2]))
+
     def has_nothing(self, place):
-        """Whether a local, or what lies behind an address, is a unit or the address of one."""
-        steps = items(place[2])
-        if not steps:
-            return is_nothing(self.kinds[place[1]])
-        return steps[-1][0] == "deref" and is_nothing(steps[-1][1])
+        """Whether a place holds what C has none of."""
+        return self.types.is_nothing(self.kind_of(place))
 
     def place(self, form):
         """A place as (C, type)."""
         local, steps = form[1], items(form[2])
         kind, text = self.kinds[local], self.tables.get(local, f"v{local}")
         self.printed.update(names(form, self.kinds))
-        if steps and self.types.is_enum(kind):
-            return self.field_of_variant(local, steps)
-        for step in steps:
-            if step[0] == "deref" and head(kind) in ("tyPtr", "tyRef") and not self.types.is_enum(step[1]):
-                kind = step[1]
-                text = f"*{text}" if kind == ["tyInt", 8] else f"(*({self.types.c(kind)} *){text})"
-            elif step[0] == "field" and is_slice(kind):
-                text, kind = f"{text}_{PARTS[step[1]]}", items(kind[2])[step[1]]
-            elif step[0] == "field" and head(kind) == "tyNamed":
-                field, kind = self.types.fields(record_name(kind))[step[1]]
-                text = f"{text}.{field}"
-            else:
-                raise NoRule("the step", step)
+        for done, step in enumerate(steps):
+            text = self.part(text, kind, step, (local, steps[:done]))
+            kind = self.types.after(kind, step)
+        if head(kind) == "variant":
+            raise NoRule("a part of an enum outside the arm of its variant:", steps)
         return text, kind
 
-    def field_of_variant(self, local, steps):
-        """A field of the variant that the arm of a match is for, as (C, type)."""
-        if [head(step) for step in steps] != ["variant", "field"] or self.matched.get(local) != steps[0][1]:
+    def part(self, text, kind, step, before):
+        """What a step leads to in C; `before` is the place that it leads on from."""
+        inside = self.types.after(kind, step)
+        if step[0] == "deref":
+            return f"*{text}" if inside == ["tyInt", 8] else f"(*({self.types.c(inside)} *){text})"
+        if step[0] == "variant":
+            return text
+        if head(kind) == "variant":
+            return self.part_of_variant(text, kind, step[1], before)
+        if is_slice(kind):
+            return f"{text}_{PARTS[step[1]]}"
+        return f"{text}.{self.types.fields(record_name(kind))[step[1]][0]}"
+
+    def part_of_variant(self, text, kind, field, before):
+        """The tag of an enum that is its tag; else a field, in the arm of a match that is for its variant."""
+        _, enum, variant = kind
+        if self.types.is_tag(enum):
+            return text
+        local, steps = before
+        if self.matched.get(self.key(local, steps[:-1])) != variant or field == 0:
             raise NoRule("a part of an enum outside the arm of its variant:", [local, steps])
-        variant, field = steps[0][1], steps[1][1]
-        kinds = self.types.variants(self.kinds[local])[variant]
-        if not 1 <= field <= len(kinds):
-            raise NoRule(f"the field {field} of variant {variant} of", self.kinds[local])
-        return f"v{local}.u.variant{variant}.f{field}", kinds[field - 1]
+        return f"{text}.u.variant{variant}.f{field}"
+
+    def key(self, local, steps):
+        """What a match knows an enum by, or None where it is behind an address, or may be stored in by one."""
+        return None if local in self.stored_in or any(step[0] == "deref" for step in steps) else (local, str(steps))
 
     def operand(self, form):
         """An operand as (C, type)."""
@@ -116,9 +154,10 @@ class Function:
         steps = items(form[2])
         if steps and steps[-1][0] == "deref":  # the address of what lies behind an address is that address
             return self.place(["place", form[1], chain(steps[:-1])])[0]
-        if self.types.is_enum(self.kinds[form[1]]):
-            raise NoRule("the address of an enum", form)
-        return f"(byte *)&{self.place(form)[0]}"
+        text, kind = self.place(form)
+        if is_slice(kind) or any(step[0] == "variant" for step in steps):
+            raise NoRule("the address of a slice, or in an enum,", form)
+        return f"(byte *)&{text}"
 
     # ---- right-hand sides
 
@@ -150,14 +189,14 @@ class Function:
         text, kind = self.operand(form)
         if operation == "not" and kind == "tyBool":
             return f"!{text}"
-        if head(operation) == "cast" and operation[1:3] == ["unsigned", "unsigned"] and head(kind) == "tyInt":
+        if head(operation) == "cast" and operation[1:3] == ["unsigned", "unsigned"] and head(kind) in ("tyInt", "tyBool"):
             return f"({self.types.c(['tyInt', operation[3]])}){text}"
         raise NoRule("the operation", operation)
 
     def value(self, form, kind):
         if form[0] == "rvOpd":
             text, held = self.operand(form[1])
-            if is_nothing(held):
+            if self.types.is_nothing(held):
                 raise NoRule("a unit for a", kind)
             return text
         if form[0] == "op2":
@@ -165,6 +204,8 @@ class Function:
         if form[0] == "op1":
             return self.unary(*form[1:])
         if form[0] == "addrOf":
+            if head(kind) not in ("tyPtr", "tyRef"):
+                raise NoRule("an address for a", kind)
             return self.address(form[1])
         if form[0] == "aggregate" and self.types.is_enum(kind):
             return self.variant(items(form[1]), kind)
@@ -175,12 +216,20 @@ class Function:
 
     def variant(self, forms, kind):
         """An enum's value: a tag, which is a constant, and the fields of its variant."""
-        fields = [self.operand(form) for form in forms[1:]]
+        held = [self.held(form) for form in forms[1:]]
         tags = [tag for tag in range(len(self.types.variants(kind))) if forms[:1] == [["int", 8, tag]]]
-        if not tags or self.types.variants(kind)[tags[0]] != [field for _, field in fields]:
+        kinds = self.types.variants(kind)[tags[0]] if tags else []
+        if not tags or len(kinds) != len(held) or not all(map(are_alike, kinds, held)):
             raise NoRule("a variant that is made of", forms)
-        inside = f", .u.variant{tags[0]} = {{{', '.join(text for text, _ in fields)}}}" if fields else ""
+        if self.types.is_tag(kind):
+            return f"{tags[0]}u"
+        fields = ", ".join(text for form in forms[1:] for text in self.argument(form))
+        inside = f", .u.variant{tags[0]} = {{{fields}}}" if fields else ""
         return f"({self.types.c(kind)}){{.tag = {tags[0]}u{inside}}}"
+
+    def held(self, form):
+        """The type of an operand."""
+        return "tyUnit" if form == "unit" else self.operand(form)[1]
 
     # ---- statements
 
@@ -189,8 +238,6 @@ class Function:
         if to[1] in self.tables or self.has_nothing(to) or not (through(to) or self.live.intersection(names(to, self.kinds))):
             return []
         text, kind = self.place(to)
-        if is_nothing(kind):
-            return []
         if value[0] == "repeat":
             if head(value[1]) != "int":
                 raise NoRule("an array of equal values that are no constant", value)
@@ -201,7 +248,7 @@ class Function:
         return [f"{text} = {self.value(value, kind)};"]
 
     def hold_target(self, to):
-        if to[1] in self.matched:
+        if not through(to) and any(key[0] == to[1] for key in self.matched):
             raise NoRule("an enum that is set in an arm of its match:", to)
 
     def call(self, form):
@@ -211,28 +258,25 @@ class Function:
             return []
         if through(to):
             raise NoRule("a call whose result goes behind an address", to)
-        text = f"{symbol(callee(form))}({', '.join(x for form in items(form[2]) for x in self.argument(form))});"
-        if self.kinds[to[1]] == "tyUnit":
+        text = f"{self.types.functions(callee(form))}({', '.join(x for form in items(form[2]) for x in self.argument(form))});"
+        if self.has_nothing(to):
             return [text]
         return [f"{self.place(to)[0]} = {text}" if f"v{to[1]}" in self.live else f"(void){text}"]
 
     def argument(self, form):
         """What stands in C for an operand: of a slice its two variables, of a unit nothing."""
+        if head(form) == "slice":
+            return [self.operand(x)[0] for x in form[1:]]
         if form == "unit" or (head(form) == "copy" and self.has_nothing(form[1])):
             return []
         text, kind = self.operand(form)
-        if is_nothing(kind):
-            return []
         return [f"{text}_{part}" for part in PARTS] if is_slice(kind) else [text]
 
-    def lend_static(self, to, kind, numbers):
-        """Static memory: an array of numbers that is lent, and so only read."""
-        array, (_, width, values) = self.kinds[to[1]], numbers
-        if to[2] != "lnil" or head(array) != "tyRef" or array[2:] != ["imm", kind] or numbers[0] != "ints":
-            raise NoRule("static memory that is lent as", [to, array])
-        values = tuple(items(values))
-        if kind != ["tyArray", ["tyInt", width], ["lenLit", len(values)]] or any(n >= 2**width for n in values):
-            raise NoRule("static memory whose numbers are not of", kind)
+    def lend_static(self, to, kind, form):
+        """Static memory that is lent, and so only read."""
+        reference, values = self.kinds[to[1]], self.types.static(kind, form)
+        if to[2] != "lnil" or head(reference) != "tyRef" or reference[2:] != ["imm", kind]:
+            raise NoRule("static memory that is lent as", [to, reference])
         if f"v{to[1]}" not in self.live:
             return []
         return [f"{self.place(to)[0]} = (byte *)&{self.table(kind, values)};"]
@@ -246,37 +290,70 @@ class Function:
         return lines + (["} else {"] + no if no else []) + ["}"]
 
     def match(self, form, around):
-        """A switch on an enum's tag. Each variant has one arm, so that the last needs no test."""
-        local, found = self.tagged(form[1]), arms(form[2])
-        if sorted(keys for keys, _ in found) != [[k] for k in range(len(self.types.variants(self.kinds[local])))]:
-            raise NoRule("a match whose arms are for", [keys for keys, _ in found])
-        self.printed.add(f"v{local}")
-        lines, ((last,), rest) = [], found.pop()
-        for (key,), body in found:
-            lines.append(f"{'} else ' if lines else ''}if (v{local}.tag == {key}u) {{")
-            lines += self.arm(local, key, body, around)
-        return lines + [f"}} else {{ /* v{local}.tag == {last}u */"] + self.arm(local, last, rest, around) + ["}"]
+        """A switch on a number, or on an enum's tag. Some arm is taken, so that the last needs no test."""
+        found, (test, enum, key) = arms(form[2]), self.tested(form[1])
+        self.hold_arms([keys for keys, _ in found], enum)
+        lines, ((last, rest),) = [], found[-1:]
+        for keys, body in found[:-1]:
+            lines.append(f"{'} else ' if lines else ''}if ({' || '.join(f'{test} == {k}u' for k in keys)}) {{")
+            lines += self.arm(key, keys, body, around)
+        note = f"/* {test} is {' or '.join(map(str, last)) or 'none of these'} */"
+        return lines + [f"}} else {{ {note}"] + self.arm(key, last, rest, around) + ["}"]
 
-    def tagged(self, form):
-        """The enum whose tag an operand is: a local."""
-        if head(form) == "copy" and items(form[1][2]) == [["variant", 0], ["field", 0]] and self.types.is_enum(self.kinds[form[1][1]]):
-            return form[1][1]
-        raise NoRule("a switch on", form)
+    def tested(self, form):
+        """What a switch is on: (C, the enum whose tag it is, what a match knows that by); of a number (C, None, None)."""
+        if head(form) == "copy" and items(form[1][2])[-2:] == [["variant", 0], ["field", 0]]:
+            steps = items(form[1][2])[:-2]
+            text, enum = self.place(["place", form[1][1], chain(steps)])
+            return text if self.types.is_tag(enum) else f"{text}.tag", enum, self.key(form[1][1], steps)
+        text, kind = self.operand(form)
+        if head(form) != "copy" or head(kind) != "tyInt":
+            raise NoRule("a switch on", form)
+        return text, None, None
 
-    def arm(self, local, variant, body, around):
-        """The body of an arm, indented: in it an enum is of one variant."""
-        outside, self.matched = self.matched, {**self.matched, local: variant}
+    def hold_arms(self, keys, enum):
+        """Each variant has one arm, or those that have none have the default; on a number there is a default."""
+        named, rest = sorted(k for some in keys for k in some), keys.count([])
+        variants = list(range(len(self.types.variants(enum)))) if enum else None
+        whole = named == variants
+        known = len(set(named)) == len(named) and (not enum or set(named) <= set(variants))
+        if len(keys) < 2 or not known or rest != (0 if whole else 1) or (rest and keys[-1] != []):
+            raise NoRule("a match whose arms are for", keys)
+
+    def arm(self, key, keys, body, around):
+        """The body of an arm, indented: in that for one variant an enum is of this one."""
+        outside = self.matched
+        if key and len(keys) == 1:
+            self.matched = {**self.matched, key: keys[0]}
         lines = self.block(body, around)
         self.matched = outside
         return lines
 
     def leave(self, count, around):
-        """`exit`: of a block out of it, of a loop round again; C has `break` for the block just around the innermost loop."""
-        if around[-1:] == ["loop"] and count == 0:
+        """`exit`: of a loop round again, of a block out of it. C has words for both of the innermost loop; other blocks get a label."""
+        words, at = [level.word for level in around], len(around) - 1 - count
+        inner = max([i for i, word in enumerate(words) if word == "loop"], default=-1)
+        if at < 0 or (words[at] == "loop" and at != inner):
+            raise NoRule(f"'exit {count}' within", words)
+        if at == inner:
             return "continue;"
-        if around[-2:] == ["block", "loop"] and count == 1:
+        if at == inner - 1 and words[at] == "around":
             return "break;"
-        raise NoRule(f"'exit {count}' within", around)
+        around[at].label = around[at].label or self.new_label("out")
+        return f"goto {around[at].label};"
+
+    def new_label(self, word):
+        self.labels += 1
+        return f"{word}{self.labels}"
+
+    def inside(self, body, around):
+        """A block's statements; an `exit` that ends it says nothing. Its label stands behind it."""
+        forms = reached(body)
+        if forms[-1:] == [["exit", 0]]:
+            forms.pop()
+        level = Level("around" if [head(form) for form in forms] == ["loop"] else "block")
+        lines = [line for form in forms for line in self.statement(form, around + [level])]
+        return lines + ([f"{level.label}:;"] if level.label else [])
 
     def statement(self, form, around):
         word = head(form)
@@ -285,44 +362,36 @@ class Function:
         if word == "call":
             return self.call(form)
         if word == "return":
-            return ["return;" if self.kinds[0] == "tyUnit" else "return v0;"]
+            return ["return;" if self.types.is_nothing(self.kinds[0]) else "return v0;"]
+        if word == "unreachable":
+            return [f"{(never := self.new_label('never'))}: goto {never};"]
         if word == "if":
             return self.choice(form, around)
         if word == "switch":
             return self.match(form, around)
         if word == "lendStatic":
             return self.lend_static(*form[1:])
-        if word == "block":  # one that is more than a loop is no place to leave: `break` would go on behind the loop, within it
-            inside = statements(form[1])
-            around = around + ["block" if [head(x) for x in inside] == ["loop"] else "part"]
-            return [line for inner in inside for line in self.statement(inner, around)]
+        if word == "block":
+            return self.inside(form[1], around)
         if word == "loop":
-            return ["for (;;) {"] + self.block(form[1], around + ["loop"]) + ["}"]
+            return ["for (;;) {"] + self.block(form[1], around + [Level("loop")]) + ["}"]
         if word == "exit":
             return [self.leave(form[1], around)]
         raise NoRule("the statement", form)
 
     def block(self, body, around):
         """A body, indented."""
-        return [INDENT + line for form in statements(body) for line in self.statement(form, around)]
+        return [INDENT + line for form in reached(body) for line in self.statement(form, around)]
 
     # ---- the function
 
     def declared(self, local):
         """The variables of a local as (C type, name)."""
-        kind = self.kinds[local]
-        if is_nothing(kind):
-            return []
-        if is_slice(kind):
-            return list(zip(("byte *", "uint64_t "), variables(local, kind)))
-        c = self.types.c(kind)
-        return [(c if c.endswith("*") else f"{c} ", f"v{local}")]
+        return self.types.declared(self.kinds[local], f"v{local}")
 
     def prototype(self):
-        if is_nothing(self.kinds[0]) and self.kinds[0] != "tyUnit":
-            raise NoRule("a result that is", self.kinds[0])
         inside = ", ".join(f"{c}{name}" for local in range(1, self.parameters + 1) for c, name in self.declared(local))
-        return f"static {self.types.c(self.kinds[0])} {symbol(self.name)}({inside or 'void'})"
+        return f"static inline {self.types.c(self.kinds[0])} {self.types.functions(self.name)}({inside or 'void'})"
 
     def locals(self):
         """The declarations, a line a type."""

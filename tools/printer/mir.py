@@ -6,9 +6,9 @@ import re
 
 ARGUMENTS = {
     0: "skip return true false unit tyBool tyPtr tyUnit lnil tnil ttnil imm mut erased unsigned valueLocal memorySlot"
-    " noDefault and or xor not eq ne shl offset wrapSub static",
-    1: "tyInt tyNamed lenLit named deref field variant copy add sub mul div rem shr lt le rvOpd addrOf aggregate block loop exit"
-    " direct fnRef fields variants",
+    " noDefault and or xor not eq ne shl offset wrapAdd wrapSub static unreachable",
+    1: "tyInt tyNamed lenLit named bound deref field variant copy add sub mul div rem shr lt le rvOpd addrOf aggregate block loop exit"
+    " direct fnRef fields variants parts default",
     2: "lcons tcons ttcons local tyArray tyStruct pair place int ints op1 repeat seq assign switch",
     3: "tyRef cast op2 if call arm lendStatic",
     5: "fnItem",
@@ -72,11 +72,15 @@ def statements(body):
 
 
 def arms(form):
-    """The arms of a switch that has no default: [(keys, body)]."""
+    """The arms of a switch: [(keys, body)]. A default has no keys and is the last."""
     out = []
     while head(form) == "arm":
+        if form[1] == "lnil":
+            raise NoRule("a match whose arms are for", "no key")
         out.append((items(form[1]), form[2]))
         form = form[3]
+    if head(form) == "default":
+        return out + [([], form[1])]
     if form != "noDefault":
         raise NoRule("a switch that ends in", form)
     return out

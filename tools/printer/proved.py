@@ -5,7 +5,8 @@ for its parameters, and their names behind its own, `core::slots::Slots::copy_in
 that name.
 
 A key that is not known is refused. Not read is what a crate says for the checker alone: what a bound asks for, which lifetimes outlive
-a type, whether a type may be copied, and of a type's row the lifetimes and bounds, what it owns and whether it is a tuple.
+a type or another, whether a type may be copied, whether a closure is spent by its call, and of a type's row the lifetimes and bounds,
+what it owns and whether it is a tuple.
 """
 import json
 
@@ -13,6 +14,7 @@ from printer.mir import NoRule, Refused, chain
 
 ITEM = {"lifetimes", "outlives", "params", "generics", "types", "locals", "body"}
 GENERICS = {"types", "outlives", "bounds", "method_of", "trait_lifetimes", "impls"}
+SPENT = {"spends_self"}
 PARAMETER = {"is_copy", "is_kept", "const_bits"}
 IMPL = {"name", "lifetimes", "outlives", "types", "type_outlives", "bounds", "of", "methods"}
 ROW = {"name", "lifetimes", "bounds", "type_params", "const_params", "type_bounds", "owns", "is_cell", "shape", "is_tuple"}
@@ -73,6 +75,8 @@ def shown(form):
         return f"u{inside}"
     if key == "Named":
         return instance(inside[0]["name"], inside[1], [])
+    if key == "Array":
+        return f"[{shown(inside[0])}; {length(inside[1])}]"
     if key == "Ref" and inside[1] in ("Imm", "Mut"):
         return f"&{'mut ' if inside[1] == 'Mut' else ''}{shown(inside[2])}"
     if key == "Struct" and inside[0] == "&[]" and inside[1][1:] == [{"Int": 64}]:
@@ -145,6 +149,17 @@ def named(form):
         yield from named(inside)
 
 
+def erased(form):
+    """A type with no lifetime told from another."""
+    if isinstance(form, list):
+        return [erased(x) for x in form]
+    if not isinstance(form, dict):
+        return form
+    if form.keys() == {"Ref"}:
+        return {"Ref": ["Erased"] + [erased(x) for x in form["Ref"][1:]]}
+    return {key: ["Erased"] * len(inside) if key == "lifetimes" else erased(inside) for key, inside in form.items()}
+
+
 def shapes(rows, forms):
     """The shapes of the named types in the forms and in these shapes: {name of the instance: shape}."""
     given, found, todo = {}, {}, list(named(forms))
@@ -157,7 +172,7 @@ def shapes(rows, forms):
         whole = instance(title, types, [])
         if title in given and whole not in found:
             hold(given[title]["type_params"] == len(types), "the types of", whole)
-            inside = closed(given[title]["shape"], types, [])
+            inside = closed(given[title]["shape"], erased(types), [])
             found[whole] = shape(inside)
             todo += named(inside)
     return found
@@ -184,8 +199,8 @@ def operand(form):
         return ["copy", place(inside)]
     if key == "Int":
         return ["int", parts(inside, {"width", "value"}, "a constant")["width"], inside["value"]]
-    if key == "SizeOf" and inside == {"Int": 8}:
-        return ["int", 64, 1]
+    if key == "SizeOf" and one(inside)[0] == "Int":
+        return ["int", 64, inside["Int"] // 8]
     raise NoRule("a proved operand", form)
 
 
@@ -225,7 +240,7 @@ class Code:
     def body(self):
         hold(self.forms, "a proved body that ends", "")
         form = self.forms.pop(0)
-        if form in ("Return", "Skip"):
+        if form in ("Return", "Skip", "Unreachable"):
             return word(form)
         if form == "Seq":
             return ["seq", self.body(), self.body()]
@@ -247,10 +262,10 @@ class Code:
         raise NoRule("a proved statement", form)
 
     def switch(self, test, keys, default):
-        """A switch has its keys before the bodies of its arms."""
-        hold(default is False, "a proved switch with a default", test)
+        """A switch has its keys before the bodies of its arms, and a default's body behind these."""
+        hold(default in (False, True), "a proved switch whose default is", default)
         arms = [(chain(key), self.body()) for key in keys]
-        form = "noDefault"
+        form = ["default", self.body()] if default else "noDefault"
         for key, arm in reversed(arms):
             form = ["arm", key, arm, form]
         return ["switch", operand(test), form]
@@ -274,9 +289,14 @@ class Code:
 
 
 def static(form):
+    """What static memory holds: numbers of an array, a number, or the parts of something larger; of an enum its tag."""
     key, inside = one(form)
-    hold(key == "Ints", "static memory of", form)
-    return ["ints", parts(inside, {"width", "values"}, "static numbers")["width"], chain(inside["values"])]
+    if key == "Ints":
+        return ["ints", parts(inside, {"width", "values"}, "static numbers")["width"], chain(inside["values"])]
+    if key == "Int":
+        return ["int", parts(inside, {"width", "value"}, "a static number")["width"], inside["value"]]
+    hold(key == "Parts", "static memory of", form)
+    return ["parts", chain([static(x) for x in inside])]
 
 
 def local(form):
@@ -284,16 +304,21 @@ def local(form):
     return ["local", kind(form["ty"]), word(form["home"])]
 
 
+def is_method(given, method):
+    """Whether a function is the method that is called; one that is called by its name may be a method of any impl."""
+    return given == {"Impl": method} if method else given is None or given.keys() == {"Impl"}
+
+
 def made(form, title, method, types, dicts, methods):
     """An instance of a proved function: its fnItem, the shapes of its types, and what it calls."""
     parts(form, ITEM, f"{title}: an item")
-    generics = parts(form["generics"], GENERICS, f"{title}: parameters")
+    generics = parts(form["generics"], GENERICS | (form["generics"].keys() & SPENT), f"{title}: parameters")
     for parameter in generics["types"]:
         parts(parameter, PARAMETER, f"{title}: a parameter")
         hold(not parameter["is_kept"] and parameter["const_bits"] is None, f"{title}: the parameter", parameter)
-    hold(generics["method_of"] == (method and {"Impl": method}), f"{title}: a method of", generics["method_of"])
+    hold(is_method(generics["method_of"], method), f"{title}: a method of", generics["method_of"])
     hold((len(generics["types"]), len(generics["bounds"])) == (len(types), len(dicts)), f"{title}: other types or bounds than", [types, dicts])
-    hold(generics["trait_lifetimes"] == 0 and form["outlives"] == [], f"{title}: lifetimes that", form["outlives"])
+    hold(generics["trait_lifetimes"] == 0, f"{title}: lifetimes of a trait", "")
     for impl in generics["impls"]:
         parts(impl, IMPL, f"{title}: an impl")
         hold(methods.setdefault(impl["name"], impl["methods"]) == impl["methods"], "two meanings of the impl", impl["name"])

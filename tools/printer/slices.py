@@ -1,5 +1,5 @@
 """A slice as C has it: an address and a length, two variables. What sets a slice is split to set first the one, then the other."""
-from printer.mir import NoRule, head, items
+from printer.mir import NoRule, chain, head, items
 
 SLICE = '"&[]"'
 PARTS = ("at", "length")
@@ -25,30 +25,31 @@ def names(place, kinds):
     return [found[steps[0][1]]] if len(found) > 1 and steps else found
 
 
-def halves(value, local):
+def half(place, i):
+    return ["place", place[1], chain(items(place[2]) + [["field", i]])]
+
+
+def halves(value, to):
     """Address and length of what a slice is set to."""
     if value[0] == "aggregate":
         operands = items(value[1])
-    elif value[0] == "rvOpd" and head(value[1]) == "copy" and value[1][1][2] == "lnil":
-        operands = [["copy", ["place", value[1][1][1], ["lcons", ["field", i], "lnil"]]] for i in (0, 1)]
+    elif value[0] == "rvOpd" and head(value[1]) == "copy":
+        operands = [["copy", half(value[1][1], i)] for i in (0, 1)]
     else:
         raise NoRule("a slice that is set to", value)
-    if len(operands) != 2 or any(head(x) == "copy" and x[1][1] == local for x in operands):
+    if len(operands) != 2 or any(head(x) == "copy" and x[1][1] == to[1] for x in operands):
         raise NoRule("a slice that is set to", value)
     return operands
 
 
-def split(body, kinds):
+def split(body, kind_of):
+    """A body in which no statement sets a slice; `kind_of` gives a place's type."""
     word = head(body)
-    if word in ("seq", "block", "loop"):
-        return [word] + [split(part, kinds) for part in body[1:]]
+    if word in ("seq", "block", "loop", "default"):
+        return [word] + [split(part, kind_of) for part in body[1:]]
     if word in ("if", "switch", "arm"):
-        return body[:2] + [split(part, kinds) for part in body[2:]]
-    if word == "assign" and body[1][2] == "lnil" and is_slice(kinds[body[1][1]]):
-        local = body[1][1]
-        at, length = [
-            ["assign", ["place", local, ["lcons", ["field", i], "lnil"]], ["rvOpd", operand]]
-            for i, operand in enumerate(halves(body[2], local))
-        ]
+        return body[:2] + [split(part, kind_of) for part in body[2:]]
+    if word == "assign" and is_slice(kind_of(body[1])):
+        at, length = [["assign", half(body[1], i), ["rvOpd", operand]] for i, operand in enumerate(halves(body[2], body[1]))]
         return ["seq", at, length]
     return body
