@@ -1,6 +1,7 @@
 pub mod Tests
 pub mod Pick
 pub mod First
+pub mod Refusals
 pub mod BitsWhere
 pub mod Bytes
 pub mod LowFirst

@@ -1,10 +1,10 @@
--- Stores one after the other: six lay six bytes over the start of a part, four fill a part of four. Assumes nothing.
+-- Stores one after the other: six lay six bytes over the start of a part. Assumes nothing.
 use mathlib.Core.Path.{◌≡◌, refl, ap, ◌∙◌}
 use mathlib.Core.List.{List, [], ◌∷◌}
 use Prim.Native.Nat.{ℕ, ◌≤◌}
 use native.Mathlib.Nat.{zero-add}
 use native.Mathlib.Omega.{arith}
-use lib.ListN.{length, get_or, set, drop_of_length-le}
+use lib.ListN.{length, get_or}
 use lib.Seq.{sets, sets-eq}
 use Rattle.lent.specs.Memory.{over}
 
@@ -23,7 +23,3 @@ pub six_stored : (xs part : List ℕ) → length xs ≡ 6 → 6 ≤ length part
     → sets part 0 (get_or xs 0 0 ∷ get_or xs 1 0 ∷ get_or xs 2 0 ∷ get_or xs 3 0 ∷ get_or xs 4 0 ∷ get_or xs 5 0 ∷ []) ≡ over xs part
 unfolding over
 six_stored xs part h k = ap (sets part 0) (six_elements xs h) ∙ sets-eq xs part 0 (omega arith) ∙ rw zero-add
-
-pub four_stored : (part : List ℕ) (a b c d : ℕ) → length part ≡ 4 → set (set (set (set part 0 a) 1 b) 2 c) 3 d ≡ a ∷ b ∷ c ∷ d ∷ []
-four_stored part a b c d h =
-    sets-eq (a ∷ b ∷ c ∷ d ∷ []) part 0 (omega arith) ∙ ap (λ (l : List ℕ). a ∷ b ∷ c ∷ d ∷ l) (drop_of_length-le part {i = 4} (omega arith))

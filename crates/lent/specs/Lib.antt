@@ -2,5 +2,6 @@
 pub mod Bytes
 pub mod LowFirst
 pub mod Memory
+pub mod Number
 pub mod Refusal
 pub mod Word
