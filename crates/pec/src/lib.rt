@@ -1,7 +1,7 @@
 // The check word PEC15 of bytes, by a table of 256 remainders, and the check of a group by it.
 #![tactic(auto)]
 
-ghost use Rattle.std.specs.Prelude.{◌≡◌, ◌<◌, length, set};
+ghost use Rattle.std.specs.Prelude.{◌≡◌, ◌<◌, ◌≤◌, length};
 ghost use Rattle.pec.specs.Register.{bits8, feed, pec_of};
 ghost use Rattle.pec.specs.Remainders.{remainders};
 ghost use Rattle.pec.specs.Group.{off_by, right};
@@ -33,14 +33,7 @@ const TABLE: [u16; 256] = [
     0x0ba7, 0x4e3e, 0x450c, 0x0095,
 ];
 
-// The 256 remainders.
-pub fn table() -> [u16; 256]
-    ensures { result ≡ remainders }
-{
-    TABLE
-}
-
-// The same, lent: a constant array is copied wherever it is named, and this one stands in static memory. It is lent down from here.
+// The 256 remainders, lent from static memory: a constant array is copied wherever it is named.
 pub fn lent_table() -> &'static [u16; 256]
     ensures { result.now ≡ remainders }
 {
@@ -48,100 +41,57 @@ pub fn lent_table() -> &'static [u16; 256]
 }
 
 // The register after one byte more.
-fn turn(table: &[u16; 256], r: u16, byte: u8) -> u16
-    requires { (table.now ≡ remainders) × (r < 32768) }
+fn turn(r: u16, byte: u8) -> u16
+    requires { r < 32768 }
     ensures { (result ≡ feed r (bits8 byte)) × (result < 32768) }
 {
+    let table = lent_table();
     let top = ((r >> 7) as u8) ^ byte;
     ((r << 8) & 0x7fff) ^ table[top as usize]
 }
 
-// The check word of the six bytes of a data group. No loop: compilers leave one as it is.
-pub fn pec_of_six(table: &[u16; 256], bytes: &[u8]) -> u16
-    requires { (table.now ≡ remainders) × (length bytes.now ≡ 6) }
+// The check word of the six bytes of a data group. No loop: a C compiler leaves one as it is, and the chain's writes by rig.c then miss their bar.
+pub fn pec_of_six(bytes: &[u8]) -> u16
+    requires { length bytes.now ≡ 6 }
     ensures { result ≡ pec_of bytes.now }
 {
-    let first = turn(table, 16, bytes[0]);
-    let second = turn(table, first, bytes[1]);
-    let third = turn(table, second, bytes[2]);
-    let fourth = turn(table, third, bytes[3]);
-    let fifth = turn(table, fourth, bytes[4]);
-    let sixth = turn(table, fifth, bytes[5]);
+    let first = turn(16, bytes[0]);
+    let second = turn(first, bytes[1]);
+    let third = turn(second, bytes[2]);
+    let fourth = turn(third, bytes[3]);
+    let fifth = turn(fourth, bytes[4]);
+    let sixth = turn(fifth, bytes[5]);
     sixth << 1
-}
-
-// That of six bytes of which the first is another. It stands by itself, since a call of either by the other slows the reader down.
-pub fn pec_of_six_with(table: &[u16; 256], byte: u8, bytes: &[u8]) -> u16
-    requires { (table.now ≡ remainders) × (length bytes.now ≡ 6) }
-    ensures { result ≡ pec_of (set bytes.now 0 byte) }
-{
-    let one = turn(table, 16, byte);
-    let two = turn(table, one, bytes[1]);
-    let three = turn(table, two, bytes[2]);
-    let four = turn(table, three, bytes[3]);
-    let five = turn(table, four, bytes[4]);
-    let six = turn(table, five, bytes[5]);
-    six << 1
-}
-
-// That of the two bytes of a command, with no loop either.
-pub fn pec_of_two(table: &[u16; 256], bytes: &[u8]) -> u16
-    requires { (table.now ≡ remainders) × (length bytes.now ≡ 2) }
-    ensures { result ≡ pec_of bytes.now }
-{
-    let high = turn(table, 16, bytes[0]);
-    let low = turn(table, high, bytes[1]);
-    low << 1
-}
-
-// The check word of `bytes`, by a lent table.
-pub fn pec_by(table: &[u16; 256], bytes: &[u8]) -> u16
-    requires { table.now ≡ remainders }
-    ensures { result ≡ pec_of bytes.now }
-{
-    if bytes.len() == 6 {
-        return pec_of_six(table, bytes);
-    }
-    let mut r: u16 = 16;
-    let mut i: usize = 0;
-    while i < bytes.len() {
-        r = turn(table, r, bytes[i]);
-        i += 1;
-    }
-    r << 1
 }
 
 // The check word of `bytes`.
 pub fn pec(bytes: &[u8]) -> u16
     ensures { CheckWord bytes.now result }
 {
-    pec_by(lent_table(), bytes)
+    if bytes.len() == 6 {
+        return pec_of_six(bytes);
+    }
+    let mut r: u16 = 16;
+    for byte in bytes {
+        r = turn(r, *byte);
+    }
+    r << 1
 }
 
-// How the word that a data group sends and the word of its six bytes differ, in 16 bits: 0 where the group is right.
-pub fn off_by(table: &[u16; 256], group: &[u8]) -> u16
-    requires { (table.now ≡ remainders) × (length group.now ≡ 8) }
+// How the word that a group sends and the word of its data differ, in 16 bits: 0 where the group is right.
+pub fn off_by(group: &[u8]) -> u16
+    requires { 2 ≤ length group.now }
     ensures { result ≡ off_by group.now }
 {
-    let word = pec_of_six(table, &group[0..6]);
-    let sent = ((group[6] as u16) << 8) | (group[7] as u16);
-    sent ^ word
+    let (body, sent) = group.split_at(group.len() - 2);
+    let word = pec(body);
+    u16::from_be_bytes([sent[0], sent[1]]) ^ word
 }
 
-// Whether a data group is right: all 16 bits of its word agree.
-pub fn is_right(table: &[u16; 256], group: &[u8]) -> bool
-    requires { (table.now ≡ remainders) × (length group.now ≡ 8) }
+// Whether a group is right: all 16 bits of its word agree.
+pub fn is_right(group: &[u8]) -> bool
+    requires { 2 ≤ length group.now }
     ensures { result ≡ right group.now }
 {
-    off_by(table, group) == 0
-}
-
-// The same of a command group.
-pub fn is_command_right(table: &[u16; 256], group: &[u8]) -> bool
-    requires { (table.now ≡ remainders) × (length group.now ≡ 4) }
-    ensures { result ≡ right group.now }
-{
-    let word = pec_of_two(table, &group[0..2]);
-    let sent = ((group[2] as u16) << 8) | (group[3] as u16);
-    sent ^ word == 0
+    off_by(group) == 0
 }

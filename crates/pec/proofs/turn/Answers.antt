@@ -9,5 +9,5 @@ pub returns : goal.returns
 returns c =
     let a = c.args in
     let i = bit_xor (a.r / 128) a.byte in
-    turned a.r a.byte _ c.requires.1 (omega arith)
-    (ap (λ (l : List ℕ). get_or l i 0) c.requires.0 ∙ entry_follows i (index_lt a.r a.byte c.requires.1 (omega arith)))
+    turned a.r a.byte _ c.requires (omega arith)
+    (ap (λ (l : List ℕ). get_or l i 0) c.lent_table-table.ensures ∙ entry_follows i (index_lt a.r a.byte c.requires (omega arith)))

@@ -1,8 +1,0 @@
--- `pec::table` is the list of specs/. Assumes nothing.
-use Rattle.std.proofs.Common.{refl}
-use Rattle.pec.specs.Remainders.{remainders}
-use Rattle.pec.proofs.table.Goals as goal
-
-pub returns : goal.returns
-unfolding remainders
-returns c = refl
