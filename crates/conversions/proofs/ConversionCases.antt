@@ -1,10 +1,12 @@
 -- What `conversion_code` and `conversion_of` promise, case by case of the code's tests. Assumes nothing.
 use mathlib.Core.Path.{◌≡◌, refl}
-use mathlib.Core.Bool.{true, false}
+use mathlib.Core.Bool.{Bool, true, false}
+use Rattle.std.specs.Prelude.{Option, None, Some, Result, Ok, Err, ok_or}
 use Prim.Native.Nat.{ℕ, ◌<◌, ◌≤◌}
-use borrow.Author.Tests.{lt-ltb, le-ltb}
+use borrow.Author.Tests.{ltb-true, ltb-false, lt-ltb, le-ltb}
+use Rattle.lent.specs.declared.refusal.Refusal.{Refusal}
 use Rattle.lent.specs.Refusal.{pick, first}
-use Rattle.conversions.specs.Conversions.{pattern_at, fields, within, code_by, fields_by, command_of, is_conversion, code_number, of_number, fields_of, Builds, TakesApart}
+use Rattle.conversions.specs.Conversions.{pattern_at, fields, within, code_by, fields_by, command_of, is_conversion, found, code_number, of_number, fields_of, Builds, TakesApart}
 use Rattle.conversions.specs.declared.Fields.{Fields}
 
 module _ (command mode discharge pull_up choice : ℕ) where
@@ -35,3 +37,29 @@ module _ (code : ℕ) where
   taken_apart command f e h g =
       let t = lt-ltb command 13 h in
       record { number = simp (← e, t); command = simp (← e, t); mode = simp (← e, t, g); discharge = simp (← e, t, g); pull_up = simp (← e, t, g); choice = simp (← e, t, g) }
+
+  -- what a search gives, and what it tells that found a command
+  pub given : (command : ℕ) → command_of code ≡ command → command < 13 → Some command ≡ found code
+  unfolding found is_conversion pick
+  given command e h = simp (e, lt-ltb command 13 h)
+
+  pub none_given : 13 ≤ command_of code → None ≡ found code
+  unfolding found is_conversion pick
+  none_given h = simp (le-ltb (command_of code) 13 h)
+
+  module _ (o : Option ℕ) (r : Result ℕ Refusal) (refusal : Refusal) (is : o ≡ found code) (made : r ≡ ok_or o refusal) where
+    pub found_one : (command : ℕ) → r ≡ Ok command → (command ≡ command_of code) × (command < 13)
+    unfolding found is_conversion pick
+    found_one command h = by_test (is_conversion code) refl (rw (← is, ← made) h)
+      where
+        by_test : (t : Bool) → is_conversion code ≡ t → ok_or (pick t (Some (command_of code)) None) refusal ≡ Ok command → (command ≡ command_of code) × (command < 13)
+        by_test true t h = let its : command ≡ command_of code = cc in (its, rw its (ltb-true (command_of code) 13 t))
+        by_test false t h = cc
+
+    pub found_none : (e : Refusal) → r ≡ Err e → (e ≡ refusal) × (13 ≤ command_of code)
+    unfolding found is_conversion pick
+    found_none e h = by_test (is_conversion code) refl (rw (← is, ← made) h)
+      where
+        by_test : (t : Bool) → is_conversion code ≡ t → ok_or (pick t (Some (command_of code)) None) refusal ≡ Err e → (e ≡ refusal) × (13 ≤ command_of code)
+        by_test true t h = cc
+        by_test false t h = (cc, ltb-false (command_of code) 13 t)

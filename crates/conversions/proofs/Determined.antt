@@ -8,14 +8,14 @@ use Rattle.conversions.specs.declared.Code.{Code}
 use Rattle.conversions.specs.declared.Conversion.{Conversion}
 use Rattle.conversions.proofs.ConversionLaws.{conversion_ext}
 
-abbrev coded : ℕ → ℕ → Code
-coded number code = record { number = number; code = code }
+abbrev numbered : ℕ → ℕ → Code
+numbered number code = record { number = number; code = code }
 
 pub code_determined : (command mode discharge pull_up choice : ℕ) (r r' : Code)
     → Builds command mode discharge pull_up choice r → Builds command mode discharge pull_up choice r' → r ≡ r'
 code_determined command mode discharge pull_up choice r r' b b' =
     let same : r.number ≡ r'.number = b.number ∙ sym b'.number in
-    ap₂ coded same
+    ap₂ numbered same
     (b.code ∙ ap (λ (x : ℕ). pick (eqb x 0) (code_by (pattern_at command) (fields mode discharge pull_up choice)) 0) same ∙ sym b'.code)
 
 pub apart_determined : (code : ℕ) (s s' : Conversion) → TakesApart code s → TakesApart code s' → s ≡ s'

@@ -1,5 +1,5 @@
 -- The 13 conversion commands of document 002, a code built from command and fields, and a code taken apart. Assumes nothing.
-use Rattle.std.specs.Prelude.{ℕ, zero, suc, ◌+◌, ◌*◌, ◌/◌, ◌%◌, ◌≡◌, Bool, not, ◌&&◌, List, [], ◌∷◌, eqb, ltb, leb, get_or}
+use Rattle.std.specs.Prelude.{ℕ, zero, suc, ◌+◌, ◌*◌, ◌/◌, ◌%◌, ◌≡◌, Bool, not, ◌&&◌, List, [], ◌∷◌, eqb, ltb, leb, get_or, Option, None, Some}
 use Rattle.lent.specs.Refusal.{pick, first}
 use Rattle.conversions.specs.declared.Pattern.{Pattern}
 use Rattle.conversions.specs.declared.Fields.{Fields}
@@ -67,6 +67,10 @@ command_of code = seek code 0 13
 
 unfoldable pub is_conversion : ℕ → Bool
 is_conversion code = ltb (command_of code) 13
+
+-- the command, where one has the code
+unfoldable pub found : ℕ → Option ℕ
+found code = pick (is_conversion code) (Some (command_of code)) None
 
 -- What `conversion_code` promises: its number, and the code, 0 on refusal.
 unfoldable pub code_number : ℕ → Fields → ℕ

@@ -2,8 +2,11 @@
 #![tactic(auto)]
 
 ghost use Rattle.std.specs.Prelude.{◌≡◌, ◌<◌, ◌-◌, ◌≤◌};
-ghost use Rattle.conversions.specs.Conversions.{pattern_at, within, weighed, code_by, choice_in, fields_by, fits, seek, command_of, Builds, TakesApart};
+ghost use Rattle.conversions.specs.Conversions.{pattern_at, within, weighed, code_by, choice_in, fields_by, fits, seek, command_of, found, Builds, TakesApart};
+ghost use Rattle.conversions.specs.Flat.{coded, taken};
 ghost use Rattle.conversions.specs.Packed.{packed_patterns};
+
+use lent::refusal::Refusal;
 
 // Row by row of 002's Table 36, by hex digits: three of the code with every field 0; the most of DCP; the most of PUP; the sort of the choice, its least and
 // its most.
@@ -23,6 +26,7 @@ const PATTERNS: [u32; 13] = [
     0x46710000, // ADCVSC
 ];
 
+// A row, taken apart. The sort stays the number that the definition's rows have: 0 no choice, 1 in bits 2 to 0, 2 in bits 6 and 5.
 #[derive(Clone, Copy)]
 pub struct Pattern {
     pub base: u32,
@@ -41,6 +45,14 @@ pub struct Fields {
     pub choice: u32,
 }
 
+// A conversion command with its fields.
+#[derive(Clone, Copy)]
+pub struct Parts {
+    pub command: u32,
+    pub fields: Fields,
+}
+
+// For C: a code, 0 on refusal.
 #[repr(C)]
 #[derive(Clone, Copy)]
 pub struct Code {
@@ -48,6 +60,22 @@ pub struct Code {
     pub code: u16,
 }
 
+impl From<Result<u16, Refusal>> for Code {
+    ghost from_gives = { λ given flat. flat ≡ coded given };
+
+    #[tactic(auto, unfolding(crate::specs::Flat::coded))]
+    fn from(given: Result<u16, Refusal>) -> Code {
+        match given {
+            Ok(code) => Code { number: 0, code },
+            Err(refusal) => Code {
+                number: u8::from(refusal),
+                code: 0,
+            },
+        }
+    }
+}
+
+// For C: a command and its fields, all 0 on refusal.
 #[repr(C)]
 #[derive(Clone, Copy)]
 pub struct Conversion {
@@ -59,19 +87,45 @@ pub struct Conversion {
     pub choice: u32,
 }
 
-// The 13 rows. A constant array is copied wherever it is named: call this once, and lend the rows down.
-#[tactic(auto, unfolding(crate::specs::Conversions::patterns, crate::specs::Packed::packed, crate::specs::Packed::packed_patterns))]
-fn patterns() -> [u32; 13]
-    ensures { result ≡ packed_patterns }
-{
-    PATTERNS
+impl From<Result<Parts, Refusal>> for Conversion {
+    ghost from_gives = { λ given flat. flat ≡ taken given };
+
+    #[tactic(auto, unfolding(crate::specs::Flat::taken))]
+    fn from(given: Result<Parts, Refusal>) -> Conversion {
+        match given {
+            Ok(Parts { command, fields }) => Conversion {
+                number: 0,
+                command,
+                mode: fields.mode,
+                discharge: fields.discharge,
+                pull_up: fields.pull_up,
+                choice: fields.choice,
+            },
+            Err(refusal) => Conversion {
+                number: u8::from(refusal),
+                command: 0,
+                mode: 0,
+                discharge: 0,
+                pull_up: 0,
+                choice: 0,
+            },
+        }
+    }
 }
 
-fn pattern_at(rows: &[u32; 13], command: usize) -> Pattern
-    requires { (rows.now ≡ packed_patterns) × (command < 13) }
+// The 13 rows, lent from static memory: a constant array is copied wherever it is named.
+#[tactic(auto, unfolding(crate::specs::Conversions::patterns, crate::specs::Packed::packed, crate::specs::Packed::packed_patterns))]
+fn patterns() -> &'static [u32; 13]
+    ensures { result.now ≡ packed_patterns }
+{
+    &PATTERNS
+}
+
+fn pattern_at(command: usize) -> Pattern
+    requires { command < 13 }
     ensures { result ≡ pattern_at command }
 {
-    let row = rows[command];
+    let row = patterns()[command];
     Pattern {
         base: row / 0x100000,
         dcp: row / 0x10000 % 16,
@@ -87,19 +141,10 @@ fn pattern_at(rows: &[u32; 13], command: usize) -> Pattern
 fn are_within(p: Pattern, f: Fields) -> bool
     ensures { result ≡ within p f }
 {
-    if 3 < f.mode {
-        return false;
-    }
-    if p.dcp < f.discharge {
-        return false;
-    }
-    if p.pup < f.pull_up {
-        return false;
-    }
-    if f.choice < p.least {
-        return false;
-    }
-    f.choice <= p.most
+    f.mode < 4
+        && f.discharge <= p.dcp
+        && f.pull_up <= p.pup
+        && (p.least..=p.most).contains(&f.choice)
 }
 
 #[tactic(auto, unfolding(crate::specs::Conversions::weighed, lent::specs::Refusal::pick))]
@@ -123,10 +168,11 @@ fn code_by(p: Pattern, f: Fields) -> u32
 fn choice_in(sort: u32, code: u32) -> u32
     ensures { result ≡ choice_in sort code }
 {
-    if sort == 2 {
-        return code / 0x20 % 4;
+    match sort {
+        2 => code / 0x20 % 4,
+        1 => code % 8,
+        _ => 0,
     }
-    if sort == 1 { code % 8 } else { 0 }
 }
 
 // What stands in a code where a command has its fields.
@@ -144,16 +190,13 @@ fn fields_by(p: Pattern, code: u32) -> Fields
 }
 
 // Whether a code is one of the command's.
-fn has_code(rows: &[u32; 13], command: usize, code: u32) -> bool
-    requires { (rows.now ≡ packed_patterns) × (command < 13) }
+fn has_code(command: usize, code: u32) -> bool
+    requires { command < 13 }
     ensures { result ≡ fits command code }
 {
-    let p = pattern_at(rows, command);
+    let p = pattern_at(command);
     let f = fields_by(p, code);
-    if code_by(p, f) == code {
-        return are_within(p, f);
-    }
-    false
+    code_by(p, f) == code && are_within(p, f)
 }
 
 // Where the search for a code begins: the first four commands have codes below 0x400.
@@ -163,68 +206,40 @@ fn first_row(code: u32) -> usize
     if code < 0x400 { 0 } else { 4 }
 }
 
-// The command of a code, and 13 where no command has it.
-fn command_of(rows: &[u32; 13], code: u32) -> usize
-    requires { rows.now ≡ packed_patterns }
-    ensures { result ≡ command_of code }
+// The command of a code, where one has it.
+fn command_of(code: u32) -> Option<usize>
+    ensures { result ≡ found code }
 {
-    let mut command = first_row(code);
-    while command < 13 {
-        if has_code(rows, command, code) {
-            return command;
+    for command in first_row(code)..13 {
+        if has_code(command, code) {
+            return Some(command);
         }
-        command += 1;
     }
-    13
+    None
 }
 
 // The code of a conversion command with its fields.
-pub fn conversion_code(command: u32, mode: u32, discharge: u32, pull_up: u32, choice: u32) -> Code
-    ensures { Builds command mode discharge pull_up choice result }
+pub fn conversion_code(parts: Parts) -> Result<u16, Refusal>
+    ensures { Builds parts.command parts.fields.mode parts.fields.discharge parts.fields.pull_up parts.fields.choice (coded result) }
 {
+    let Parts { command, fields } = parts;
     if 12 < command {
-        return Code { number: 9, code: 0 };
+        return Err(Refusal::FieldRange);
     }
-    let rows = patterns();
-    let p = pattern_at(&rows, command as usize);
-    let f = Fields {
-        mode,
-        discharge,
-        pull_up,
-        choice,
-    };
-    if are_within(p, f) {
-        return Code {
-            number: 0,
-            code: code_by(p, f) as u16,
-        };
+    let p = pattern_at(command as usize);
+    if !are_within(p, fields) {
+        return Err(Refusal::FieldRange);
     }
-    Code { number: 9, code: 0 }
+    Ok(code_by(p, fields) as u16)
 }
 
 // A code taken apart.
-pub fn conversion_of(code: u32) -> Conversion
-    ensures { TakesApart code result }
+pub fn conversion_of(code: u32) -> Result<Parts, Refusal>
+    ensures { TakesApart code (taken result) }
 {
-    let rows = patterns();
-    let command = command_of(&rows, code);
-    if 12 < command {
-        return Conversion {
-            number: 2,
-            command: 0,
-            mode: 0,
-            discharge: 0,
-            pull_up: 0,
-            choice: 0,
-        };
-    }
-    let f = fields_by(pattern_at(&rows, command), code);
-    Conversion {
-        number: 0,
+    let command = command_of(code).ok_or(Refusal::UnknownCommand)?;
+    Ok(Parts {
         command: command as u32,
-        mode: f.mode,
-        discharge: f.discharge,
-        pull_up: f.pull_up,
-        choice: f.choice,
-    }
+        fields: fields_by(pattern_at(command), code),
+    })
 }

@@ -1,12 +1,13 @@
 -- `conversions::command_of`: the search stops at the command that has the code, steps over one that has not, and finds none behind the last. Assumes nothing.
 use Rattle.std.proofs.Common.{sym, ◌∙◌, arith}
+use Rattle.conversions.proofs.ConversionCases.{given, none_given}
 use Rattle.conversions.proofs.ConversionLaws.{found_here, found_on, found_none}
 use Rattle.conversions.proofs.command_of.Goals as goal
 
 pub returns-then-has_code : goal.returns-then-has_code
 returns-then-has_code c =
     let l = c.loop-command in
-    sym (l.invariant.1 ∙ found_here c.args.code l.command (omega arith) (sym c.has_code.ensures ∙ c.if-has_code.true))
+    given _ _ (l.invariant.1 ∙ found_here c.args.code l.command (omega arith) (sym c.has_code.ensures ∙ c.if-has_code.true)) (omega arith)
 
 pub loop-command-preserved : goal.loop-command-preserved
 loop-command-preserved c =
@@ -16,4 +17,4 @@ loop-command-preserved c =
 pub returns : goal.returns
 returns c =
     let l = c.loop-command in
-    sym (l.invariant.1 ∙ found_none c.args.code l.command (omega arith))
+    none_given _ (omega (arith, l.invariant.1, found_none c.args.code l.command (omega arith)))

@@ -5,6 +5,3 @@ use Rattle.conversions.proofs.command_of.Given as goal
 
 abbrev pub invariant-loop-command : goal.invariant-loop-command
 invariant-loop-command l = (l.command ≤ 13) × (command_of l.code ≡ seek l.code l.command (13 - l.command))
-
-abbrev pub decreases-loop-command : goal.decreases-loop-command
-decreases-loop-command l = 13 - l.command

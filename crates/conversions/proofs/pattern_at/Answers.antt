@@ -4,4 +4,4 @@ use Rattle.conversions.proofs.ConversionLaws.{unpacked, unpacked_at}
 use Rattle.conversions.proofs.pattern_at.Goals as goal
 
 pub returns : goal.returns
-returns c = ap (λ (l : List ℕ). unpacked (get_or l c.args.command 0)) c.requires.0 ∙ unpacked_at c.args.command
+returns c = ap (λ (l : List ℕ). unpacked (get_or l c.args.command 0)) c.patterns.ensures ∙ unpacked_at c.args.command
