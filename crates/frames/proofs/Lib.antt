@@ -1,5 +1,7 @@
 pub mod Lookup
 pub mod Apart
+pub mod Search
+pub mod Found
 pub mod KindCases
 pub mod Sizes
 pub mod GroupLaws

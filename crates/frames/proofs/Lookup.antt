@@ -4,17 +4,14 @@ use mathlib.Core.Path.{◌≡◌, refl, sym, ap, ◌∙◌}
 use mathlib.Core.Bool.{Bool, true, false, not, ◌&&◌, ◌||◌, true≢false}
 use mathlib.Core.List.{List, [], ◌∷◌}
 use Prim.Native.Nat.{ℕ, suc, ◌+◌, ◌*◌, ◌≤◌, ◌<◌}
-use native.Mathlib.Numerals.{add-one}
 use native.Mathlib.Omega.{arith}
 use borrow.Author.Tests.{eqb-true, eqb-false, ltb-true, leb-true, eq-eqb, ne_eqb, lt-ltb, le-ltb, le-leb}
 use lib.Dec.{eqb, ltb, leb}
-use lib.ListN.{length, get_or, drop, drop_of_length-le, get_or-map}
-use lib.Seq.{drop-cons}
-use Rattle.lent.specs.Refusal.{pick, first}
+use lib.ListN.{length, get_or}
+use Rattle.lent.specs.Refusal.{pick}
 use Rattle.lent.proofs.Tests.{and_left, and_right, below, each_below}
-use Rattle.conversions.specs.Conversions.{is_conversion, of_number}
+use Rattle.conversions.specs.Conversions.{is_conversion}
 use Rattle.frames.specs.Commands.{Row, row, rows, unlisted, found, kind_of, group_of}
-use Rattle.frames.specs.Columns.{code_column}
 use Rattle.conversions.proofs.ConversionLaws.{conversion_between}
 
 -- the row at a place, and past the table's end an empty one
@@ -167,36 +164,3 @@ unfolding same_row rows
 no_code_twice i j hi hj e =
     let t : same_row i j ≡ true = each_below (same_row i) 26 (each_below (λ (k : ℕ). below 26 (same_row k)) 26 refl i hi) j hj in
     eqb-true i j (rw (eq-eqb (row_at i).code (row_at j).code e) at t)
-
--- The search, row by row: the code is at i; it is not; the table is at its end.
-pub hit : (code i : ℕ) → i < length rows → get_or code_column i 0 ≡ code → found code (drop i rows) ≡ row_at i
-unfolding found pick code_column
-hit code i h e =
-    rw (drop-cons rows i (row 0 0 0) h, eq-eqb (row_at i).code code (sym (get_or-map (λ (r : Row). r.code) rows i (row 0 0 0)) ∙ e))
-
-pub miss : (code i : ℕ) → i < length rows → (get_or code_column i 0 ≡ code → ⊥) → found code (drop i rows) ≡ found code (drop (i + 1) rows)
-unfolding found pick code_column
-miss code i h e =
-    rw (add-one, drop-cons rows i (row 0 0 0) h, ne_eqb (row_at i).code code (λ s. e (get_or-map (λ (r : Row). r.code) rows i (row 0 0 0) ∙ s)))
-
-pub none_left : (code i : ℕ) → length rows ≤ i → found code (drop i rows) ≡ unlisted code
-unfolding found
-none_left code i h = rw (drop_of_length-le rows {i = i} h)
-
--- past the end, by what taking the code apart says
-module _ (code number : ℕ) (e : number ≡ of_number code) where
-  pub asked : number ≡ 0 → unlisted code ≡ row code 4 0
-  unfolding of_number unlisted first pick
-  asked z = by_test (is_conversion code) e
-    where
-      by_test : (b : Bool) → number ≡ first ((not b, 2) ∷ []) → row code (pick b 4 0) 0 ≡ row code 4 0
-      by_test true q = refl
-      by_test false q = absurd (omega arith)
-
-  pub unknown : (number ≡ 0 → ⊥) → unlisted code ≡ row code 0 0
-  unfolding of_number unlisted first pick
-  unknown z = by_test (is_conversion code) e
-    where
-      by_test : (b : Bool) → number ≡ first ((not b, 2) ∷ []) → row code (pick b 4 0) 0 ≡ row code 0 0
-      by_test true q = absurd (z q)
-      by_test false q = refl

@@ -1,4 +1,5 @@
--- How the code holds the table of commands: by columns. Nothing that is promised speaks of it. Assumes nothing.
+-- How the code holds the table of commands: by columns, and the kinds by their names, whose numbers are this column (proofs/Search `kinds_held`). Nothing that is
+-- promised speaks of it. Assumes nothing.
 use Rattle.std.specs.Prelude.{ℕ, List, map}
 use Rattle.frames.specs.Commands.{Row, rows}
 

@@ -2,6 +2,7 @@
 pub mod Size
 pub mod Kind
 pub mod Commands
+pub mod Answers
 pub mod Columns
 pub mod Places
 pub mod Frame
