@@ -30,10 +30,6 @@ within n k g count h l = omega arith
 pub room_at : (n k g count at : ℕ) → at ≡ spot k g → k < n → g + count ≤ 18 → at + 6 * count ≤ state_length n
 room_at n k g count at e h l = omega (arith, within n k g count h l)
 
-pub size_most : (n : ℕ) → n ≤ 16 → state_length n ≤ 1744
-unfolding state_length
-size_most n h = omega arith
-
 pub length_stored : (n k g : ℕ) (state : List ℕ) → k < n → g < 18 → length state ≡ state_length n → length (stored k g state) ≡ 6
 unfolding stored
 length_stored n k g state h l e = let w = within n k g 1 h (omega arith) in simp (length-take, length-drop) (omega arith)

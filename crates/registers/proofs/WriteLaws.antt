@@ -3,8 +3,8 @@ use mathlib.Core.Path.{◌≡◌, refl, sym, ap, ap₂, ◌∙◌, subst}
 use mathlib.Core.Bool.{Bool, true, false}
 use mathlib.Core.Logic.{⊎_elim}
 use mathlib.Core.List.{List}
-use Prim.Native.Nat.{ℕ, zero, suc, ◌+◌, ◌*◌, ◌-◌, ◌^◌, ◌≤◌, ◌<◌}
-use native.Mathlib.Nat.{pow-suc, le_of_suc-le-suc, eq-or-lt_of_le}
+use Prim.Native.Nat.{ℕ, zero, suc, ◌+◌, ◌*◌, ◌-◌, ◌%◌, ◌^◌, ◌≤◌, ◌<◌}
+use native.Mathlib.Nat.{le_of_suc-le-suc, eq-or-lt_of_le}
 use native.Mathlib.Numerals.{add-one}
 use native.Mathlib.Omega.{arith}
 use borrow.Author.Tests.{eqb-true, eqb-false}
@@ -54,11 +54,12 @@ pub turn_word : (n k from word bit r : ℕ) (frame : List ℕ) → from ≡ 4 + 
 unfolding wire stored_bits
 turn_word n k from word bit r frame ef eb ew er = let size : from + 8 - from ≡ 8 = omega arith in bit_more (λ (j : ℕ). right (wire n j frame)) k word ew r (er ∙ rw (size, ef, eb))
 
-pub pow_step : (k : ℕ) → 2 ^ (k + 1) ≡ 2 ^ k * 2
-pow_step k = rw (add-one, pow-suc)
-
 pub bit_small : (n k : ℕ) → k < n → n ≤ 16 → 2 ^ k ≤ 32768
 bit_small n k h l = pow_mono {i = k} {j = 15} (omega arith)
+
+-- the bit that the code shifts to its place
+pub bit_shifted : (n k : ℕ) → k < n → n ≤ 16 → 1 * 2 ^ k % 65536 ≡ 2 ^ k
+bit_shifted n k h l = omega (arith, bit_small n k h l)
 
 pub pow_most : (n : ℕ) → n ≤ 16 → 2 ^ n ≤ 65536
 pow_most n h = pow_mono {i = n} {j = 16} h

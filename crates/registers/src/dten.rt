@@ -5,6 +5,7 @@ ghost use Rattle.registers.specs.Dten.{with_bit};
 pub const CFGA: usize = 0;
 
 // A byte with bit 1 put to `bit`.
+#[tactic(auto, unfolding(crate::specs::Dten::with_bit))]
 pub fn with_bit(bit: u8, byte: u8) -> u8
     requires { bit ≤ 1 }
     ensures { result ≡ with_bit bit byte }

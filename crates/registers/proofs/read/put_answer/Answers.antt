@@ -1,5 +1,6 @@
 -- `registers::read::put_answer` shows a group, and of CFGA the pin as DTEN. Assumes nothing.
-use Rattle.std.proofs.Common.{refl, sym, ap, ◌∙◌, arith}
+use Rattle.std.proofs.Common.{sym, ap, ◌∙◌, arith}
+use Rattle.lent.proofs.Over.{over_full}
 use Rattle.pec.specs.Group.{with_pec}
 use Rattle.registers.proofs.DtenLaws.{dten_laid, no_dten}
 use Rattle.registers.proofs.read.put_answer.Goals as goal
@@ -12,4 +13,5 @@ returns-then-group-ne-CFGA c =
 pub returns : goal.returns
 returns c =
     let a = c.args in
-    c.put_group_with.ensures ∙ ap with_pec (dten_laid a.group a.pin _ a.registers.now _ (omega arith) refl c.with_bit-first.ensures)
+    let laid = c.copy_six.ensures ∙ over_full a.registers.now _ (omega arith) in
+    c.put_group-2.ensures ∙ ap with_pec (dten_laid a.group a.pin _ a.registers.now _ (omega arith) laid c.with_bit.ensures)
