@@ -1,11 +1,14 @@
 -- The chain's number in each case, in the order of the tests, and what each outcome has to show. Assumes nothing.
-use mathlib.Core.Path.{◌≡◌, sym, ◌∙◌}
+use mathlib.Core.Path.{◌≡◌, sym}
 use mathlib.Core.Bool.{true, false}
 use mathlib.Core.List.{List}
 use Prim.Native.Nat.{ℕ, ◌≤◌, ◌<◌}
 use borrow.Author.Tests.{eq-eqb, ne_eqb, lt-ltb, le-ltb}
 use lib.Dec.{eqb}
 use lib.ListN.{length, take}
+use Rattle.std.specs.Prelude.{Result, Ok, Err}
+use Rattle.lent.specs.Number.{number}
+use Rattle.lent.specs.declared.refusal.Refusal.{Refusal}
 use Rattle.lent.specs.Refusal.{pick, first}
 use Rattle.lent.specs.Memory.{over}
 use Rattle.pec.specs.Group.{right}
@@ -15,7 +18,7 @@ use Rattle.frames.specs.Commands.{kind_of, group_of}
 use Rattle.registers.specs.State.{state_length, pin_above, Sound}
 use Rattle.registers.specs.Effect.{silence, answer, changed, report}
 use Rattle.chain.specs.Chain.{code_of, chain_number, fills, chain_word, chain_state, chain_reply, Serves}
-use Rattle.chain.specs.declared.Heard.{Heard}
+use Rattle.chain.specs.Flat.{heard}
 use Rattle.registers.proofs.StateLaws.{none_above}
 
 -- Each section takes one test as passed. What the code holds by then (the kind, the frame's length) comes with its meaning.
@@ -70,21 +73,21 @@ module _ (n : ℕ) (frame state : List ℕ) (r : ℕ) where
 
 module _ (n : ℕ) (frame state reply : List ℕ) where
   -- a refusal that changes nothing
-  pub untouched : (m : ℕ) → eqb m 0 ≡ false → fills m ≡ false → chain_number n frame state (length reply) ≡ m
-      → Serves n frame state reply (record { number = m; word = 0 }) state reply
-  unfolding chain_word chain_state chain_reply pick
-  untouched m z f e = record { number = sym e; word = rw z; registers = rw z; answered = rw (z, f) }
+  pub untouched : (r : Refusal) (given : Result ℕ Refusal) → given ≡ Err r → eqb (number r) 0 ≡ false → fills (number r) ≡ false
+      → chain_number n frame state (length reply) ≡ number r → Serves n frame state reply (heard given) state reply
+  unfolding heard chain_word chain_state chain_reply pick
+  untouched r given g z f e = rw g (record { number = sym e; word = rw z; registers = rw z; answered = rw (z, f) })
 
   -- a refusal that shows silence
-  pub silent : (m : ℕ) (r : Heard) (reply' : List ℕ) → eqb m 0 ≡ false → fills m ≡ true → r.number ≡ m → r.word ≡ 0 → reply' ≡ over (silence (length frame)) reply
-      → chain_number n frame state (length reply) ≡ m → Serves n frame state reply r state reply'
-  unfolding chain_word chain_state chain_reply pick
-  silent m r reply' z f em ew p e = record { number = em ∙ sym e; word = rw (em, z) ew; registers = rw (em, z); answered = rw (em, z, f) p }
+  pub silent : (r : Refusal) (given : Result ℕ Refusal) (reply' : List ℕ) → given ≡ Err r → eqb (number r) 0 ≡ false → fills (number r) ≡ true
+      → reply' ≡ over (silence (length frame)) reply → chain_number n frame state (length reply) ≡ number r → Serves n frame state reply (heard given) state reply'
+  unfolding heard chain_word chain_state chain_reply pick
+  silent r given reply' g z f p e = rw g (record { number = sym e; word = rw z; registers = rw z; answered = rw (z, f) p })
 
   -- done
   pub done : (kind g word : ℕ) (state' reply' : List ℕ) → chain_number n frame state (length reply) ≡ 0 → kind ≡ kind_of (code_of frame) → g ≡ group_of (code_of frame)
       → word ≡ report n kind frame → state' ≡ changed n kind g frame state → reply' ≡ over (answer n kind g frame state) reply
-      → Serves n frame state reply (record { number = 0; word = word }) state' reply'
-  unfolding chain_word chain_state chain_reply pick
+      → Serves n frame state reply (heard (Ok word)) state' reply'
+  unfolding heard chain_word chain_state chain_reply pick
   done kind g word state' reply' e k eg w s a =
       record { number = sym e; word = rw (← k) w; registers = rw (← k, ← eg) s; answered = rw (← k, ← eg) a }

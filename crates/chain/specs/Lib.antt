@@ -2,3 +2,4 @@
 pub mod Chain
 pub mod Alone
 pub mod Pins
+pub mod Flat
