@@ -1,4 +1,4 @@
--- Laws of what all devices give: its length, one turn of the loop that lays it over lent memory, and that what the first devices gave may lie there before. Assumes nothing.
+-- Laws of what all devices give: its length, and one turn of the loop that lays it over lent memory. Assumes nothing.
 use mathlib.Core.Path.{◌≡◌, refl, ap, ◌∙◌}
 use mathlib.Core.List.{List}
 use Prim.Native.Nat.{ℕ, ◌+◌, ◌*◌, ◌-◌, ◌≤◌, ◌<◌}
@@ -7,7 +7,7 @@ use native.Mathlib.Omega.{arith}
 use lib.ListN.{length, take, drop, set, length-take, length-drop}
 use borrow.Rule.Slice.PartMut.{put_mid}
 use Rattle.lent.specs.Memory.{over}
-use Rattle.lent.proofs.Over.{over_hides, over_more, over_set}
+use Rattle.lent.proofs.Over.{over_more, over_set}
 use Rattle.lent.proofs.Parts.{length_pieces, length_values}
 use Rattle.frames.specs.Places.{eight}
 use Rattle.host.specs.Marks.{mark_of, bytes_of}
@@ -30,18 +30,6 @@ length_all_bytes k reply h =
 pub length_all_marks : (k : ℕ) (reply : List ℕ) → length (all_marks k reply) ≡ k
 unfolding all_marks
 length_all_marks k reply = length_values (λ (j : ℕ). all_marks j reply) (λ (j : ℕ). mark_of (eight j reply)) refl (λ j. refl) k
-
--- what all devices give, laid over memory on which what the first of them give lies already
-module _ (first n : ℕ) (reply old after : List ℕ) (h : first ≤ n) where
-  pub first_bytes : 4 + 8 * n ≤ length reply → after ≡ over (all_bytes first reply) old → over (all_bytes n reply) after ≡ over (all_bytes n reply) old
-  first_bytes r e =
-      ap (over (all_bytes n reply)) e
-      ∙ over_hides (all_bytes n reply) (all_bytes first reply) old (omega (arith, length_all_bytes n reply r, length_all_bytes first reply (omega arith)))
-
-  pub first_marks : after ≡ over (all_marks first reply) old → over (all_marks n reply) after ≡ over (all_marks n reply) old
-  first_marks e =
-      ap (over (all_marks n reply)) e
-      ∙ over_hides (all_marks n reply) (all_marks first reply) old (omega (arith, length_all_marks n reply, length_all_marks first reply))
 
 -- One turn of the loop, at device k: its part of the reply, and what is laid over the lent bytes and the lent marks.
 module _ (k : ℕ) (reply : List ℕ) where

@@ -1,9 +1,10 @@
 -- The reader's number in each case, in the order of the tests, and what each outcome has to show. Assumes nothing.
-use mathlib.Core.Path.{◌≡◌, sym}
+use mathlib.Core.Path.{◌≡◌, refl, sym}
 use mathlib.Core.Bool.{true, false, not}
 use mathlib.Core.List.{List}
 use Prim.Native.Nat.{ℕ, ◌+◌, ◌*◌, ◌≤◌, ◌<◌}
 use borrow.Author.Tests.{eqb-true, not-false, eq-eqb, ne_eqb, lt-ltb, le-ltb}
+use native.Mathlib.Omega.{arith}
 use lib.Dec.{eqb}
 use lib.ListN.{length}
 use Rattle.lent.specs.Refusal.{pick, first}
@@ -11,7 +12,21 @@ use Rattle.lent.specs.Memory.{over}
 use Rattle.lent.proofs.First.{none_first}
 use Rattle.frames.specs.Size.{outside}
 use Rattle.frames.specs.Commands.{kind_of}
+use Rattle.frames.specs.Answers.{kind_number}
+use Rattle.frames.specs.declared.commands.Kind.{Kind}
 use Rattle.host.specs.Reader.{all_bytes, all_marks, reader_number, reader_bytes, reader_marks, HandsOut}
+
+-- whether a kind is that of a read
+pub no_read : (kind : Kind) → (kind ≡ Kind.Read → ⊥) → kind_number kind ≡ 2 → ⊥
+unfolding kind_number
+no_read Kind.Write n e = omega arith
+no_read Kind.Read n e = n refl
+no_read Kind.Clear n e = omega arith
+no_read Kind.Conversion n e = omega arith
+
+pub a_read : (kind : Kind) → kind ≡ Kind.Read → kind_number kind ≡ 2
+unfolding kind_number
+a_read kind e = rw e
 
 -- Each section takes one test as passed. The kind comes with its meaning; r, b and m are the lengths of the reply and of the lent bytes and marks.
 module _ (n code r b m : ℕ) where

@@ -1,5 +1,6 @@
 -- What a mark says of the eight bytes that come from a device, and the six bytes that go with it. Assumes nothing.
-use Rattle.std.specs.Prelude.{ℕ, ◌+◌, Bool, true, false, ◌&&◌, ◌||◌, List, [], ◌∷◌, eqb, ltb, take, replicate}
+use Rattle.std.specs.Prelude.{ℕ, ◌+◌, Bool, true, ◌&&◌, List, [], ◌∷◌, eqb, ltb, take, replicate}
+use Rattle.std.specs.List.{list_any}
 use Rattle.lent.specs.Refusal.{pick}
 use Rattle.pec.specs.Group.{right}
 
@@ -33,8 +34,7 @@ was_read mark = eqb mark read_mark
 
 -- there is a mark above 2
 unfoldable pub any_above : List ℕ → Bool
-any_above [] = false
-any_above (mark ∷ marks) = ltb silent_mark mark || any_above marks
+any_above = list_any (ltb silent_mark)
 
 -- how many of the marks are of one sort
 unfoldable pub count_of : ℕ → List ℕ → ℕ

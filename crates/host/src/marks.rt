@@ -1,31 +1,36 @@
 // The marks of a reply.
 ghost use Rattle.std.specs.Prelude.{◌≡◌};
 ghost use Rattle.host.specs.Marks.{was_read, any_above};
+ghost use Rattle.host.specs.Sorts.{mark_number};
 
-// The sorts of marks: the group was read, its PEC is wrong, the device is silent.
-pub const READ: u8 = 0;
+// Whether a group was read, its PEC is wrong, or its device is silent.
+#[derive(Clone, Copy, Debug, PartialEq, Eq)]
+pub enum Mark {
+    Read,
+    Wrong,
+    Silent,
+}
 
-pub const WRONG: u8 = 1;
+// A mark is a byte where it is lent.
+impl From<Mark> for u8 {
+    ghost from_gives = { λ mark n. n ≡ mark_number mark };
 
-pub const SILENT: u8 = 2;
+    #[tactic(auto, unfolding(crate::specs::Sorts::mark_number))]
+    fn from(mark: Mark) -> u8 {
+        mark as u8
+    }
+}
 
 // Whether there is a mark above 2.
 pub fn any_above(marks: &[u8]) -> bool
     ensures { result ≡ any_above marks.now }
 {
-    let mut i = 0;
-    while i < marks.len() {
-        if SILENT < marks[i] {
-            return true;
-        }
-        i += 1;
-    }
-    false
+    marks.iter().any(|mark| (Mark::Silent as u8) < *mark)
 }
 
 // Whether the group was read.
 pub fn was_read(mark: u8) -> bool
     ensures { result ≡ was_read mark }
 {
-    mark == READ
+    mark == Mark::Read as u8
 }

@@ -1,26 +1,23 @@
--- `host::reader::read_groups`: the silent devices that come first, and then the others, if there are any. Assumes nothing.
-use Rattle.std.proofs.Common.{◌∙◌, arith}
-use Rattle.lent.proofs.Over.{lies_over}
-use Rattle.host.proofs.ReaderLaws.{first_bytes, first_marks}
+-- `host::reader::read_groups` lays six bytes and a mark for each device. Assumes nothing.
+use Rattle.std.proofs.Common.{◌+◌, ◌-◌, ◌*◌, length-set, refl, ◌∙◌, arith}
+use borrow.Rule.Slice.PartMut.{same_len_mid}
+use Rattle.lent.proofs.Over.{over_none}
+use Rattle.host.specs.Reader.{all_bytes, all_marks}
+use Rattle.host.proofs.ReaderLaws.{turn_bytes, turn_marks}
 use Rattle.host.proofs.reader.read_groups.Goals as goal
 
-pub read_from-requires : goal.read_from-requires
-read_from-requires c =
-    let laid = c.read_silent-first.ensures in (
-      c.lent_table.ensures,
-      laid.0,
-      c.requires.0,
-      c.requires.1,
-      omega arith,
-      omega arith,
-      lies_over _ _ _ laid.1,
-      lies_over _ _ _ laid.2,
-    )
+pub loop-k-init : goal.loop-k-init
+unfolding all_bytes all_marks
+loop-k-init c = (refl, refl, over_none _, over_none _)
 
-pub returns-then-first-n : goal.returns-then-first-n
-returns-then-first-n c =
+pub loop-k-preserved : goal.loop-k-preserved
+loop-k-preserved c =
+    let l = c.loop-k in
     let a = c.args in
-    let laid = c.read_silent-first.ensures in (
-      c.read_from.ensures.0 ∙ first_bytes _ a.n a.reply.now a.bytes.now _ laid.0 (omega arith) laid.1,
-      c.read_from.ensures.1 ∙ first_marks _ a.n a.reply.now a.marks.now _ laid.0 laid.2,
+    let one = c.read_group in
+    let at = 6 * l.k in (
+      same_len_mid at (at + 6 - at) l.bytes one.new.part one.auto.part ∙ l.invariant.0,
+      simp length-set l.invariant.1,
+      turn_bytes l.k a.reply.now a.bytes.now l.bytes one.new.part (omega arith) (omega arith) l.invariant.2 one.ensures.1,
+      turn_marks l.k a.reply.now a.marks.now l.marks c.into.result (omega arith) l.invariant.3 (c.into.ensures ∙ one.ensures.0),
     )
