@@ -6,6 +6,7 @@ use Prim.Native.Nat.{ℕ, ◌-◌, ◌<◌}
 use native.Mathlib.Omega.{arith}
 use borrow.Author.Tests.{eqb-false, not-true}
 use lib.Dec.{eqb}
+use Rattle.std.specs.Prelude.{Option, None, Some}
 use Rattle.lent.specs.Refusal.{pick}
 use Rattle.lent.proofs.Pick.{pick_true}
 use Rattle.lent.proofs.Tests.{and_left, and_right}
@@ -13,7 +14,6 @@ use Rattle.cells.specs.Cells.{count_at, read_at, cleared_at, valid_at, ReadsCell
 use Rattle.cells.specs.Extremes.{is_set, count_of_cell, Spans, IsOutmost}
 use Rattle.cells.specs.declared.Readings.{Readings}
 use Rattle.cells.specs.declared.extremes.Range.{Range}
-use Rattle.cells.specs.declared.extremes.Range.TheVariants.{None, Between}
 use Rattle.cells.proofs.CellsCases.{each_count, each_bit}
 use Rattle.cells.proofs.Ends.{cells_none, between}
 
@@ -40,11 +40,11 @@ module _ (groups marks : List ℕ) (r : Readings) (w : ReadsCells groups marks r
       let kept = eqb-false (count_at groups (k - 1)) 65535 (not-true (cleared_at groups (k - 1)) (and_right (read_at marks (k - 1)) (not (cleared_at groups (k - 1))) ok)) in
       (and_left (read_at marks (k - 1)) (not (cleared_at groups (k - 1))) ok, holds, λ e. kept (sym holds ∙ e))
 
-  module _ (range : Range) (s : Spans r.counts r.valid range) where
-    pub ends_measured : (low x high y : ℕ) → range ≡ Between low x high y → Measured low x × Measured high y
-    ends_measured low x high y e =
-        let both = between r.counts r.valid low x high y (sym s.range ∙ e) in
-        (measured false low x both.0, measured true high y both.1)
+  module _ (range : Option Range) (s : Spans r.counts r.valid range) where
+    pub ends_measured : (ends : Range) → range ≡ Some ends → Measured ends.low_cell ends.low × Measured ends.high_cell ends.high
+    ends_measured ends e =
+        let both = between r.counts r.valid ends (sym s.range ∙ e) in
+        (measured false ends.low_cell ends.low both.0, measured true ends.high_cell ends.high both.1)
 
     pub none_measured : ((c : ℕ) → c < 18 → valid_at groups marks c ≡ false) → range ≡ None
     none_measured h = s.range ∙ cells_none r.counts r.valid (λ c l. set_where_valid c l ∙ h c l)

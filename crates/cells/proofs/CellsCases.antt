@@ -10,6 +10,9 @@ use borrow.Author.Tests.{eqb-true, eq-eqb, ne_eqb}
 use lib.Dec.{eqb}
 use lib.ListN.{length, get_or, replicate, length-replicate}
 use lib.Pow.{pow_pos, pow_mono, shr_lt}
+use Rattle.std.specs.Prelude.{Ok, Err}
+use Rattle.lent.specs.Number.{number}
+use Rattle.lent.specs.declared.refusal.Refusal.{Refusal}
 use Rattle.lent.specs.Refusal.{pick, first}
 use Rattle.lent.specs.Word.{bits_where}
 use Rattle.lent.proofs.BitsWhere.{bit_or_none, bits_below, bits_at}
@@ -18,30 +21,26 @@ use Rattle.lent.proofs.Pick.{pick_true, pick_false}
 use Rattle.lent.proofs.Tests.{lt_or_le}
 use Rattle.host.specs.Marks.{any_above}
 use Rattle.cells.specs.Cells.{count_at, read_at, cleared_at, valid_at, unmeasured_at, counts_of, cells_number, ReadsCells}
+use Rattle.cells.specs.Flat.{readings}
 use Rattle.cells.specs.declared.Readings.{Readings}
 use Rattle.cells.proofs.CellsPassed.{zeros, length_counts, count_in_list, SoFar}
 
--- what the code's `refused` gives
-abbrev Refused : Readings → Type 0
-Refused r = (r.number ≡ 3) × (r.counts ≡ replicate 18 0) × (r.valid ≡ 0) × (r.unmeasured ≡ 0)
-
 module _ (groups marks : List ℕ) where
-  refused : (r : Readings) → Refused r → cells_number groups marks ≡ 3 → ReadsCells groups marks r
-  unfolding pick
-  refused r e n = record { number = e.0 ∙ sym n; counts = rw n e.1; valid = rw n e.2; unmeasured = rw n e.3 }
+  refused : cells_number groups marks ≡ 3 → ReadsCells groups marks (readings (Err Refusal.WrongLength))
+  unfolding readings number pick
+  refused n = record { number = sym n; counts = rw n; valid = rw n; unmeasured = rw n }
 
-  module _ (r : Readings) (e : Refused r) where
-    pub groups_wrong : (length groups ≡ 36 → ⊥) → ReadsCells groups marks r
-    unfolding cells_number first pick
-    groups_wrong g = refused r e (simp (ne_eqb (length groups) 36 g))
+  pub groups_wrong : (length groups ≡ 36 → ⊥) → ReadsCells groups marks (readings (Err Refusal.WrongLength))
+  unfolding cells_number first pick
+  groups_wrong g = refused (simp (ne_eqb (length groups) 36 g))
 
-    pub marks_wrong : length groups ≡ 36 → (length marks ≡ 6 → ⊥) → ReadsCells groups marks r
-    unfolding cells_number first pick
-    marks_wrong g m = refused r e (simp (eq-eqb (length groups) 36 g, ne_eqb (length marks) 6 m))
+  pub marks_wrong : length groups ≡ 36 → (length marks ≡ 6 → ⊥) → ReadsCells groups marks (readings (Err Refusal.WrongLength))
+  unfolding cells_number first pick
+  marks_wrong g m = refused (simp (eq-eqb (length groups) 36 g, ne_eqb (length marks) 6 m))
 
-    pub mark_above : length groups ≡ 36 → length marks ≡ 6 → any_above marks ≡ true → ReadsCells groups marks r
-    unfolding cells_number first pick
-    mark_above g m a = refused r e (simp (eq-eqb (length groups) 36 g, eq-eqb (length marks) 6 m, a))
+  pub mark_above : length groups ≡ 36 → length marks ≡ 6 → any_above marks ≡ true → ReadsCells groups marks (readings (Err Refusal.WrongLength))
+  unfolding cells_number first pick
+  mark_above g m a = refused (simp (eq-eqb (length groups) 36 g, eq-eqb (length marks) 6 m, a))
 
   accepted : length groups ≡ 36 → length marks ≡ 6 → any_above marks ≡ false → cells_number groups marks ≡ 0
   unfolding cells_number first pick
@@ -49,8 +48,8 @@ module _ (groups marks : List ℕ) where
 
   pub read : length groups ≡ 36 → length marks ≡ 6 → any_above marks ≡ false → (n valid unmeasured : ℕ) (counts : List ℕ) → n ≡ 18
       → SoFar groups marks n counts valid unmeasured
-      → ReadsCells groups marks (record { number = 0; counts = counts; valid = valid; unmeasured = unmeasured })
-  unfolding pick
+      → ReadsCells groups marks (readings (Ok (record { counts = counts; valid = valid; unmeasured = unmeasured })))
+  unfolding readings pick
   read g m a n valid unmeasured counts all s =
       let z = accepted g m a in
       let whole = s.counts ∙ over_full (counts_of n groups marks) zeros (omega (arith, length_counts groups marks n, length-replicate {A = ℕ} 18 0)) in

@@ -2,6 +2,7 @@
 use mathlib.Core.Path.{◌≡◌, sym, ap₂, ◌∙◌}
 use mathlib.Core.List.{List}
 use Prim.Native.Nat.{ℕ}
+use Rattle.std.specs.Prelude.{Option}
 use Rattle.cells.specs.Cells.{ReadsCells}
 use Rattle.cells.specs.Extremes.{Spans}
 use Rattle.cells.specs.declared.Readings.{Readings}
@@ -14,5 +15,5 @@ reading_determined groups marks r r' w w' =
     ∙ ap₂ (λ (v u : ℕ). record { number = r'.number; counts = r'.counts; valid = v; unmeasured = u })
     (w.valid ∙ sym w'.valid) (w.unmeasured ∙ sym w'.unmeasured)
 
-pub extremes_determined : (counts : List ℕ) (valid : ℕ) (r r' : Range) → Spans counts valid r → Spans counts valid r' → r ≡ r'
+pub extremes_determined : (counts : List ℕ) (valid : ℕ) (r r' : Option Range) → Spans counts valid r → Spans counts valid r' → r ≡ r'
 extremes_determined counts valid r r' w w' = w.range ∙ sym w'.range

@@ -3,9 +3,8 @@ use mathlib.Core.Path.{◌≡◌, refl, sym, ◌∙◌}
 use mathlib.Core.Bool.{Bool, true, false, ◌&&◌, ◌||◌}
 use mathlib.Core.Logic.{◌⊎◌, inl, inr, ⊎_elim}
 use mathlib.Core.List.{List}
-use Prim.Native.Nat.{ℕ, zero, suc, ◌+◌, ◌-◌, ◌<◌, ◌≤◌}
+use Prim.Native.Nat.{ℕ, zero, suc, ◌-◌, ◌<◌, ◌≤◌}
 use native.Mathlib.Nat.{not-suc-le-zero}
-use native.Mathlib.Numerals.{add-one}
 use native.Mathlib.Omega.{arith}
 use borrow.Author.Count.{below_more}
 use borrow.Author.Tests.{ltb-true, ltb-false, le-ltb, eq-eqb, ne_eqb}
@@ -103,13 +102,3 @@ module _ (up : Bool) (counts : List ℕ) (valid : ℕ) where
 
   pub is_outmost : (n : ℕ) → (outmost up n counts valid ≡ 0 → ⊥) → IsOutmost up n counts valid (outmost up n counts valid) (count_of_cell counts (outmost up n counts valid))
   is_outmost n h = ⊎_elim (λ f. absurd (h f.0)) (λ f. f) (found n)
-
-  -- one turn of the loop: the next cell takes the place, or not
-  module _ (n best : ℕ) (e : best ≡ outmost up n counts valid) where
-    pub taken : takes up counts valid best n ≡ true → n + 1 ≡ outmost up (n + 1) counts valid
-    unfolding outmost pick
-    taken t = rw (add-one, ← e, t)
-
-    pub left : takes up counts valid best n ≡ false → best ≡ outmost up (n + 1) counts valid
-    unfolding outmost pick
-    left t = rw (add-one, ← e, t)

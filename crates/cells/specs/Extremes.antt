@@ -1,8 +1,7 @@
 -- The lowest and the highest of the valid cells, from the counts and the word that the cell reading gives. 01 does not ask for it. Assumes nothing.
-use Rattle.std.specs.Prelude.{ℕ, zero, suc, ◌+◌, ◌-◌, ◌/◌, ◌%◌, ◌^◌, ◌<◌, ◌≤◌, ◌≡◌, Bool, true, false, ◌&&◌, ◌||◌, List, eqb, ltb, get_or}
+use Rattle.std.specs.Prelude.{ℕ, zero, suc, ◌+◌, ◌-◌, ◌/◌, ◌%◌, ◌^◌, ◌<◌, ◌≤◌, ◌≡◌, Bool, true, false, ◌&&◌, ◌||◌, List, Option, None, Some, eqb, ltb, get_or}
 use Rattle.lent.specs.Refusal.{pick}
 use Rattle.cells.specs.declared.extremes.Range.{Range}
-use Rattle.cells.specs.declared.extremes.Range.TheVariants.{None, Between}
 
 -- bit c of the word is set: cell number c + 1 is valid
 unfoldable pub is_set : ℕ → ℕ → Bool
@@ -25,15 +24,29 @@ unfoldable pub outmost : Bool → ℕ → List ℕ → ℕ → ℕ
 outmost up zero counts valid = 0
 outmost up (suc n) counts valid = let best = outmost up n counts valid in pick (takes up counts valid best n) (suc n) best
 
--- The values of each case: None where no cell is valid; else low cell, low, high cell, high.
-unfoldable pub extremes_of : List ℕ → ℕ → Range
-extremes_of counts valid =
-    let low = outmost false 18 counts valid in
-    let high = outmost true 18 counts valid in
-    pick (eqb low 0) None (Between low (count_of_cell counts low) high (count_of_cell counts high))
+-- Of the first n cells: None where none is valid; else low cell, low, high cell, high.
+unfoldable pub extremes_among : ℕ → List ℕ → ℕ → Option Range
+extremes_among n counts valid =
+    let low = outmost false n counts valid in
+    let high = outmost true n counts valid in
+    pick (eqb low 0) None (Some (record { low_cell = low; low = count_of_cell counts low; high_cell = high; high = count_of_cell counts high }))
+
+unfoldable pub extremes_of : List ℕ → ℕ → Option Range
+extremes_of = extremes_among 18
+
+-- what one more valid cell makes of them, number k with the count x
+unfoldable pub widened : Option Range → ℕ → ℕ → Range
+widened None k x = record { low_cell = k; low = x; high_cell = k; high = x }
+widened (Some r) k x =
+    record {
+      low_cell = pick (ltb x r.low) k r.low_cell;
+      low = pick (ltb x r.low) x r.low;
+      high_cell = pick (ltb r.high x) k r.high_cell;
+      high = pick (ltb r.high x) x r.high;
+    }
 
 -- What `extremes` promises.
-pub record Spans (counts : List ℕ) (valid : ℕ) (r : Range) : Type 0 where
+pub record Spans (counts : List ℕ) (valid : ℕ) (r : Option Range) : Type 0 where
   pub range : r ≡ extremes_of counts valid
 
 -- What the outmost of the first n cells is, number k with the count x: it is valid, no valid cell lies further out, and no valid cell of a lower

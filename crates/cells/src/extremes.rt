@@ -1,19 +1,17 @@
 // The lowest and the highest of the valid cells.
-ghost use Rattle.std.specs.Prelude.{◌≡◌, ◌<◌, ◌≤◌};
-ghost use Rattle.cells.specs.Extremes.{is_set, further, takes, outmost, Spans};
+ghost use Rattle.std.specs.Prelude.{◌≡◌, ◌<◌};
+ghost use Rattle.cells.specs.Extremes.{is_set, widened, Spans};
 
-// None where no cell is valid; else the lowest and the highest, each by its cell's number, from 1, and its count.
-#[derive(Clone, Copy)]
-pub enum Range {
-    None,
-    Between {
-        low_cell: u8,
-        low: u16,
-        high_cell: u8,
-        high: u16,
-    },
+// The lowest and the highest, each by its cell's number, from 1, and its count.
+#[derive(Clone, Copy, Debug, PartialEq, Eq)]
+pub struct Range {
+    pub low_cell: u8,
+    pub low: u16,
+    pub high_cell: u8,
+    pub high: u16,
 }
 
+#[tactic(auto, unfolding(crate::specs::Extremes::is_set))]
 fn is_set(valid: u32, cell: usize) -> bool
     requires { cell < 18 }
     ensures { result ≡ is_set valid cell }
@@ -21,54 +19,38 @@ fn is_set(valid: u32, cell: usize) -> bool
     (valid >> cell) % 2 == 1
 }
 
-// Whether x lies further out than y: above it or below it, as is asked.
-fn is_further(up: bool, x: u16, y: u16) -> bool
-    ensures { result ≡ further up x y }
+// With one more valid cell. It takes an end only where it lies further out, so the cell of the lower number stays on a tie.
+fn widened(range: Option<Range>, cell: u8, count: u16) -> Range
+    ensures { result ≡ widened range cell count }
 {
-    if up { y < x } else { x < y }
+    let Some(mut range) = range else {
+        return Range {
+            low_cell: cell,
+            low: count,
+            high_cell: cell,
+            high: count,
+        };
+    };
+    if count < range.low {
+        range.low_cell = cell;
+        range.low = count;
+    }
+    if range.high < count {
+        range.high_cell = cell;
+        range.high = count;
+    }
+    range
 }
 
-// Whether a cell takes the place of the outmost so far, which has the number `best`, or 0 where there is none.
-fn is_taken(up: bool, counts: &[u16; 18], valid: u32, best: usize, cell: usize) -> bool
-    requires { (best ≤ cell) × (cell < 18) }
-    ensures { result ≡ takes up counts.now valid best cell }
-{
-    if !is_set(valid, cell) {
-        return false;
-    }
-    if best == 0 {
-        return true;
-    }
-    is_further(up, counts[cell], counts[best - 1])
-}
-
-fn find(up: bool, counts: &[u16; 18], valid: u32) -> usize
-    ensures { (result ≡ outmost up 18 counts.now valid) × (result ≤ 18) }
-{
-    let mut best: usize = 0;
-    let mut cell: usize = 0;
-    while cell < 18 {
-        if is_taken(up, counts, valid, best, cell) {
-            best = cell + 1;
-        }
-        cell += 1;
-    }
-    best
-}
-
-// The extremes of the valid cells; bits of the word above 17 are not looked at.
-pub fn extremes(counts: [u16; 18], valid: u32) -> Range
+// The extremes of the valid cells, where there is one; bits of the word above 17 are not looked at.
+pub fn extremes(counts: [u16; 18], valid: u32) -> Option<Range>
     ensures { Spans counts valid result }
 {
-    let low = find(false, &counts, valid);
-    if low == 0 {
-        return Range::None;
+    let mut range = None;
+    for cell in 0..18 {
+        if is_set(valid, cell) {
+            range = Some(widened(range, cell as u8 + 1, counts[cell]));
+        }
     }
-    let high = find(true, &counts, valid);
-    Range::Between {
-        low_cell: low as u8,
-        low: counts[low - 1],
-        high_cell: high as u8,
-        high: counts[high - 1],
-    }
+    range
 }

@@ -1,10 +1,12 @@
 // The cell reading: eighteen counts of 100 µV from the six groups CVA to CVF of one device; in `extremes` the lowest and the highest.
 #![tactic(auto)]
 
-ghost use Rattle.std.specs.Prelude.{◌≡◌, ◌<◌, ◌^◌, length, replicate};
+ghost use Rattle.std.specs.Prelude.{◌≡◌, ◌<◌, ◌^◌, length};
 ghost use Rattle.cells.specs.Cells.{count_at, read_at, ReadsCells};
+ghost use Rattle.cells.specs.Flat.{readings};
 
 use host::marks;
+use lent::refusal::Refusal;
 
 pub mod extremes;
 
@@ -12,16 +14,50 @@ pub mod extremes;
 const CLEARED: u16 = 65535;
 
 // In both words bit c - 1 speaks of cell c.
-#[repr(C)]
 #[derive(Clone, Copy)]
-pub struct Readings {
-    pub number: u8,
+pub struct Cells {
     // of cells 1 to 18
     pub counts: [u16; 18],
     // read and measured
     pub valid: u32,
     // read, and not measured
     pub unmeasured: u32,
+}
+
+// For C: the same, all 0 on refusal.
+#[repr(C)]
+#[derive(Clone, Copy)]
+pub struct Readings {
+    pub number: u8,
+    pub counts: [u16; 18],
+    pub valid: u32,
+    pub unmeasured: u32,
+}
+
+impl From<Result<Cells, Refusal>> for Readings {
+    ghost from_gives = { λ given flat. flat ≡ readings given };
+
+    #[tactic(auto, unfolding(crate::specs::Flat::readings))]
+    fn from(given: Result<Cells, Refusal>) -> Readings {
+        match given {
+            Ok(cells) => {
+                // by a name of its own: no array straight from field to field is checked
+                let counts = cells.counts;
+                Readings {
+                    number: 0,
+                    counts,
+                    valid: cells.valid,
+                    unmeasured: cells.unmeasured,
+                }
+            }
+            Err(refusal) => Readings {
+                number: u8::from(refusal),
+                counts: [0; 18],
+                valid: 0,
+                unmeasured: 0,
+            },
+        }
+    }
 }
 
 // Inside, cell c of 01 is c - 1. Three cells to a group.
@@ -46,35 +82,17 @@ fn bit(cell: usize) -> u32
     1 << cell
 }
 
-fn refused() -> Readings
-    ensures { (result.number ≡ 3) × (result.counts ≡ replicate 18 0) × (result.valid ≡ 0) × (result.unmeasured ≡ 0) }
-{
-    Readings {
-        number: 3,
-        counts: [0; 18],
-        valid: 0,
-        unmeasured: 0,
-    }
-}
-
 // The readings of one device, from its 36 bytes and their six marks.
-pub fn reading(groups: &[u8], marks: &[u8]) -> Readings
-    ensures { ReadsCells groups.now marks.now result }
+pub fn reading(groups: &[u8], marks: &[u8]) -> Result<Cells, Refusal>
+    ensures { ReadsCells groups.now marks.now (readings result) }
 {
-    if groups.len() != 36 {
-        return refused();
-    }
-    if marks.len() != 6 {
-        return refused();
-    }
-    if marks::any_above(marks) {
-        return refused();
+    if groups.len() != 36 || marks.len() != 6 || marks::any_above(marks) {
+        return Err(Refusal::WrongLength);
     }
     let mut counts = [0u16; 18];
     let mut valid: u32 = 0;
     let mut unmeasured: u32 = 0;
-    let mut cell: usize = 0;
-    while cell < 18 {
+    for cell in 0..18 {
         let held = count(groups, cell);
         if is_read(marks, cell) {
             if held == CLEARED {
@@ -84,12 +102,10 @@ pub fn reading(groups: &[u8], marks: &[u8]) -> Readings
                 valid += bit(cell);
             }
         }
-        cell += 1;
     }
-    Readings {
-        number: 0,
-        counts: counts,
-        valid: valid,
-        unmeasured: unmeasured,
-    }
+    Ok(Cells {
+        counts,
+        valid,
+        unmeasured,
+    })
 }
