@@ -1,10 +1,11 @@
 -- The link tally: replies, groups read, groups wrong, groups silent, and a reply's marks added to it. Assumes nothing.
-use Rattle.std.specs.Prelude.{ℕ, ◌+◌, ◌≡◌, Bool, ◌||◌, List, [], ◌∷◌, eqb, ltb, length}
+use Rattle.std.specs.Prelude.{ℕ, ◌+◌, ◌≡◌, Bool, ◌||◌, List, [], ◌∷◌, Result, Ok, Err, eqb, ltb, length}
+use Rattle.lent.specs.Number.{number}
 use Rattle.lent.specs.Refusal.{pick, first}
+use Rattle.lent.specs.declared.refusal.Refusal.{Refusal}
 use Rattle.frames.specs.Size.{outside}
 use Rattle.host.specs.Marks.{read_mark, wrong_mark, silent_mark, any_above, count_of}
 use Rattle.tally.specs.declared.Tally.{Tally}
-use Rattle.tally.specs.declared.Added.{Added}
 
 -- Adding a reply's marks raises replies by 1 and the others by the marks of their sort.
 unfoldable pub counted : List ℕ → Tally
@@ -32,6 +33,15 @@ tally_number t marks =
 -- The tally afterwards: a refusal changes nothing.
 unfoldable pub tally_after : Tally → List ℕ → Tally
 tally_after t marks = pick (eqb (tally_number t marks) 0) (plus t (counted marks)) t
+
+-- what is given, and the tally as it is to be
+pub record Added : Type 0 where
+  pub number : ℕ
+  pub tally : Tally
+
+unfoldable pub added : Tally → Result Tally Refusal → Added
+added t (Ok sum) = record { number = 0; tally = sum }
+added t (Err refusal) = record { number = number refusal; tally = t }
 
 -- What `add` promises.
 pub record Adds (t : Tally) (marks : List ℕ) (r : Added) : Type 0 where

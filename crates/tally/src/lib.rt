@@ -1,11 +1,16 @@
 // The link tally: replies, groups read, groups wrong, groups silent, each a 32-bit count.
 #![tactic(auto)]
 
-ghost use Rattle.std.specs.Prelude.{◌≡◌, ◌+◌, ◌≤◌, true, false, length};
+ghost use Rattle.std.specs.Prelude.{◌≡◌, ◌≤◌, false, length};
+ghost use Rattle.lent.specs.Refusal.{pick};
 ghost use Rattle.host.specs.Marks.{any_above, count_of};
-ghost use Rattle.tally.specs.Tally.{past, past_any, plus, counted, Adds};
+ghost use Rattle.host.specs.Sorts.{mark_number};
+ghost use Rattle.tally.specs.Tally.{past_any, plus, counted, added, Adds};
 
+use frames::size::Devices;
 use host::marks;
+use host::marks::Mark;
+use lent::refusal::Refusal;
 
 #[repr(C)]
 #[derive(Clone, Copy)]
@@ -16,25 +21,15 @@ pub struct Tally {
     pub silent: u32,
 }
 
-// The number, and the tally as it is to be.
-#[derive(Clone, Copy)]
-pub struct Added {
-    pub number: u8,
-    pub tally: Tally,
-}
-
 // How many of a reply's marks are of one sort.
-fn count(reply: &[u8], sort: u8) -> u32
+fn count(reply: &[u8], sort: Mark) -> u32
     requires { length reply.now ≤ 16 }
-    ensures { result ≡ count_of sort reply.now }
+    ensures { result ≡ count_of (mark_number sort) reply.now }
 {
+    let number = u8::from(sort);
     let mut n: u32 = 0;
-    let mut i: usize = 0;
-    while i < reply.len() {
-        if reply[i] == sort {
-            n += 1;
-        }
-        i += 1;
+    for mark in reply {
+        n += u32::from(*mark == number);
     }
     n
 }
@@ -44,77 +39,36 @@ fn count_all(reply: &[u8]) -> Tally
     requires { (length reply.now ≤ 16) × (any_above reply.now ≡ false) }
     ensures { result ≡ counted reply.now }
 {
-    let read = count(reply, marks::READ);
-    let wrong = count(reply, marks::WRONG);
+    let read = count(reply, Mark::Read);
+    let wrong = count(reply, Mark::Wrong);
     let all = reply.len() as u32;
     Tally {
         replies: 1,
-        read: read,
-        wrong: wrong,
+        read,
+        wrong,
         silent: all - read - wrong,
     }
 }
 
-// Whether a count raised by `more` would pass 4,294,967,295, which it may reach.
-fn passes(count: u32, more: u32) -> bool
-    ensures { result ≡ past (count + more) }
+// Both together, where no count would pass 4,294,967,295, which it may reach.
+fn sum(tally: Tally, more: Tally) -> Option<Tally>
+    ensures { result ≡ pick (past_any (plus tally more)) None (Some (plus tally more)) }
 {
-    4294967295 - count < more
-}
-
-// Whether any of the four counts would pass it.
-fn passes_any(tally: Tally, more: Tally) -> bool
-    ensures { result ≡ past_any (plus tally more) }
-{
-    if passes(tally.replies, more.replies) {
-        return true;
-    }
-    if passes(tally.read, more.read) {
-        return true;
-    }
-    if passes(tally.wrong, more.wrong) {
-        return true;
-    }
-    passes(tally.silent, more.silent)
-}
-
-fn sum(tally: Tally, more: Tally) -> Tally
-    requires { past_any (plus tally more) ≡ false }
-    ensures { result ≡ plus tally more }
-{
-    Tally {
-        replies: tally.replies + more.replies,
-        read: tally.read + more.read,
-        wrong: tally.wrong + more.wrong,
-        silent: tally.silent + more.silent,
-    }
+    Some(Tally {
+        replies: tally.replies.checked_add(more.replies)?,
+        read: tally.read.checked_add(more.read)?,
+        wrong: tally.wrong.checked_add(more.wrong)?,
+        silent: tally.silent.checked_add(more.silent)?,
+    })
 }
 
 // The tally with a reply's marks added.
-pub fn add(tally: Tally, marks: &[u8]) -> Added
-    ensures { Adds tally marks.now result }
+pub fn add(tally: Tally, marks: &[u8]) -> Result<Tally, Refusal>
+    ensures { Adds tally marks.now (added tally result) }
 {
-    if frames::size::outside(marks.len()) {
-        return Added {
-            number: 1,
-            tally: tally,
-        };
-    }
+    Devices::of(marks.len())?;
     if marks::any_above(marks) {
-        return Added {
-            number: 3,
-            tally: tally,
-        };
+        return Err(Refusal::WrongLength);
     }
-    let more = count_all(marks);
-    if passes_any(tally, more) {
-        return Added {
-            number: 8,
-            tally: tally,
-        };
-    }
-    Added {
-        number: 0,
-        tally: sum(tally, more),
-    }
+    sum(tally, count_all(marks)).ok_or(Refusal::TallyFull)
 }
