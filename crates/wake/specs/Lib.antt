@@ -1,2 +1,3 @@
 -- What the wake rule promises. Assumes nothing.
 pub mod Wake
+pub mod Flat

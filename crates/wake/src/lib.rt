@@ -2,7 +2,11 @@
 #![tactic(auto)]
 
 ghost use Rattle.std.specs.Prelude.{◌≡◌};
+ghost use Rattle.wake.specs.Flat.{woken};
 ghost use Rattle.wake.specs.Wake.{gap_of, Waits};
+
+use frames::size::Devices;
+use lent::refusal::Refusal;
 
 // The shortest tIDLE (documents 000 and 003), in microseconds: from it up the port may be idle.
 const IDLE: u32 = 4300;
@@ -10,12 +14,27 @@ const IDLE: u32 = 4300;
 // tREADY of one device, in microseconds.
 const READY: u32 = 10;
 
-// The number, and the microseconds to wait before a frame.
+// For C: the microseconds to wait before a frame, 0 on refusal.
 #[repr(C)]
 #[derive(Clone, Copy)]
 pub struct Wake {
     pub number: u8,
     pub wait: u32,
+}
+
+impl From<Result<u32, Refusal>> for Wake {
+    ghost from_gives = { λ given flat. flat ≡ woken given };
+
+    #[tactic(auto, unfolding(crate::specs::Flat::woken))]
+    fn from(given: Result<u32, Refusal>) -> Wake {
+        match given {
+            Ok(wait) => Wake { number: 0, wait },
+            Err(refusal) => Wake {
+                number: u8::from(refusal),
+                wait: 0,
+            },
+        }
+    }
 }
 
 // Now minus last, modulo 2^32.
@@ -25,18 +44,14 @@ fn gap(last: u32, clock: u32) -> u32
     clock.wrapping_sub(last)
 }
 
-// The wait before a frame to a chain of n devices, whose last frame was at `last`.
-pub fn wait(n: u32, last: u32, clock: u32) -> Wake
-    ensures { Waits n last clock result }
+// The microseconds to wait before a frame to a chain of n devices, whose last frame was at `last`.
+pub fn wait(n: u32, last: u32, clock: u32) -> Result<u32, Refusal>
+    ensures { Waits n last clock (woken result) }
 {
-    if frames::size::outside(n as usize) {
-        return Wake { number: 1, wait: 0 };
-    }
-    if gap(last, clock) < IDLE {
-        return Wake { number: 0, wait: 0 };
-    }
-    Wake {
-        number: 0,
-        wait: READY * n,
-    }
+    Devices::of(n as usize)?;
+    Ok(if gap(last, clock) < IDLE {
+        0
+    } else {
+        READY * n
+    })
 }
