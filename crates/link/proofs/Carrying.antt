@@ -6,7 +6,10 @@ use Prim.Native.Nat.{ℕ, ◌-◌, ◌≤◌, min}
 use native.Mathlib.Omega.{arith}
 use lib.ListN.{length, take, drop}
 use lib.Seq.{take_at, length-take-le, take_all}
+use Rattle.std.specs.Prelude.{Result}
 use Rattle.lent.specs.Memory.{over}
+use Rattle.lent.specs.Number.{number_given, written}
+use Rattle.lent.specs.declared.refusal.Refusal.{Refusal}
 use Rattle.lent.proofs.Tests.{lt_or_le}
 use Rattle.pec.specs.Noise.{noisy}
 use Rattle.pec.proofs.Mask.{length_noisy}
@@ -14,11 +17,13 @@ use Rattle.lent.specs.declared.Written.{Written}
 use Rattle.frames.specs.Writer.{Wrote}
 use Rattle.chain.specs.declared.Heard.{Heard}
 use Rattle.chain.specs.Chain.{chain_word, Serves}
+use Rattle.chain.specs.Flat.{heard}
 use Rattle.host.specs.Reader.{HandsOut}
 use Rattle.link.specs.Rig.{Made, Served, Handed, made_by, served_by, handed_by, ours}
 use Rattle.link.specs.Sending.{Sending}
 use Rattle.link.specs.Step.{frame, arrives, serves, returns, hands, gathered, step}
 use Rattle.link.specs.Carry.{Carries}
+use Rattle.link.proofs.Results.{written_number}
 
 -- each contract says that what its callers see is our rig's
 made_is : (n code : ℕ) (bytes out : List ℕ) (w : Written) (out' : List ℕ) → Wrote n code bytes out w out'
@@ -55,15 +60,15 @@ laid mask memory piece k h e =
     let long : length (noisy mask (take k memory)) ≡ k = length_noisy mask (take k memory) ∙ length-take-le k memory h in
     (rw (whole, same) (take_at (noisy mask (take k memory)) (drop k memory) k long), rw (whole, same, long))
 
-module _ (n : ℕ) (s : Sending) (state : List ℕ) (w : Written) (out' piece : List ℕ) (h : Heard) (state' reply' : List ℕ) (m : ℕ) (piece' : List ℕ) (a : ℕ) (read' marks' : List ℕ) where
-  pub carried : Wrote n s.code s.bytes s.out w out' → w.length ≤ length out' → piece ≡ noisy s.forth (take (w.length - 0) out')
-      → Serves n (take (w.length - 0) (piece ++ drop (w.length - 0) out')) state s.reply h state' reply'
-      → m ≡ min w.length (length reply') → piece' ≡ noisy s.back (take (m - 0) reply')
-      → HandsOut n s.code (take (m - 0) (piece' ++ drop (m - 0) reply')) s.read s.marks a read' marks'
-      → Carries n s state (record { made = w.number; number = h.number; word = h.word; asked = a }) (piece ++ drop (w.length - 0) out') state'
-      (piece' ++ drop (m - 0) reply') read' marks'
+module _ (n : ℕ) (s : Sending) (state : List ℕ) (made : Result ℕ Refusal) (made' : Result (Unit {0}) Refusal) (size : ℕ) (out' piece : List ℕ) (given : Result ℕ Refusal) (state' reply' : List ℕ) (m : ℕ) (piece' : List ℕ)
+    (asked : Result (Unit {0}) Refusal) (read' marks' : List ℕ) where
+  pub carried : Wrote n s.code s.bytes s.out (written made) out' → number_given made' ≡ number_given made → size ≡ (written made).length → size ≤ length out' → piece ≡ noisy s.forth (take (size - 0) out')
+      → Serves n (take (size - 0) (piece ++ drop (size - 0) out')) state s.reply (heard given) state' reply'
+      → m ≡ min size (length reply') → piece' ≡ noisy s.back (take (m - 0) reply')
+      → HandsOut n s.code (take (m - 0) (piece' ++ drop (m - 0) reply')) s.read s.marks (number_given asked) read' marks'
+      → Carries n s state (record { made = made'; heard = given; asked = asked }) (piece ++ drop (size - 0) out') state' (piece' ++ drop (m - 0) reply') read' marks'
   unfolding step serves hands returns arrives frame
-  carried wrote fits out-noise served em back-noise handed = record {
+  carried wrote kept es fits out-noise served em back-noise handed = record {
     step =
         ap (gathered W C) reader_is
         ∙ ap (λ (c : Served). gathered W c (reader W c)) chain_is
@@ -72,16 +77,16 @@ module _ (n : ℕ) (s : Sending) (state : List ℕ) (w : Written) (out' piece : 
     reply =
         back.1
         ∙ ap (λ (l : List ℕ). over (noisy s.back l) reply') returned
-        ∙ ap (λ (c : Served). over (noisy s.back (take (length (take w.length out')) c.reply)) c.reply) chain_is
+        ∙ ap (λ (c : Served). over (noisy s.back (take (length (take size out')) c.reply)) c.reply) chain_is
         ∙ ap (λ (x : Made). over (noisy s.back (take (length (take x.size x.out)) (chain x).reply)) (chain x).reply) writer_is;
   }
     where
       -- what the three calls show
       W : Made
-      W = record { number = w.number; size = w.length; out = out' }
+      W = record { number = number_given made'; size = size; out = out' }
 
       C : Served
-      C = record { number = h.number; word = h.word; registers = state'; reply = reply' }
+      C = record { number = (heard given).number; word = (heard given).word; registers = state'; reply = reply' }
 
       chain : Made → Served
       chain x = ours.chain n (noisy s.forth (take x.size x.out)) state s.reply
@@ -90,25 +95,27 @@ module _ (n : ℕ) (s : Sending) (state : List ℕ) (w : Written) (out' piece : 
       reader x c = ours.reader n s.code (noisy s.back (take (length (take x.size x.out)) c.reply)) s.read s.marks
 
       writer_is : W ≡ ours.writer n s.code s.bytes s.out
-      writer_is = made_is n s.code s.bytes s.out w out' wrote
+      writer_is =
+          ap₂ (λ (x z : ℕ). record { number = x; size = z; out = out' }) (kept ∙ sym (written_number made)) es
+          ∙ made_is n s.code s.bytes s.out (written made) out' wrote
 
-      forth : (take (w.length - 0) (piece ++ drop (w.length - 0) out') ≡ noisy s.forth (take w.length out'))
-          × (piece ++ drop (w.length - 0) out' ≡ over (noisy s.forth (take w.length out')) out')
-      forth = laid s.forth out' piece w.length fits out-noise
+      forth : (take (size - 0) (piece ++ drop (size - 0) out') ≡ noisy s.forth (take size out'))
+          × (piece ++ drop (size - 0) out' ≡ over (noisy s.forth (take size out')) out')
+      forth = laid s.forth out' piece size fits out-noise
 
       chain_is : C ≡ chain W
       chain_is =
-          served_is n (take (w.length - 0) (piece ++ drop (w.length - 0) out')) state s.reply h state' reply' served
+          served_is n (take (size - 0) (piece ++ drop (size - 0) out')) state s.reply (heard given) state' reply' served
           ∙ ap (λ (l : List ℕ). ours.chain n l state s.reply) forth.0
 
-      returned : take m reply' ≡ take (length (take w.length out')) reply'
-      returned = ap (λ (i : ℕ). take i reply') em ∙ take_min w.length reply' ∙ ap (λ (i : ℕ). take i reply') (sym (length-take-le w.length out' fits))
+      returned : take m reply' ≡ take (length (take size out')) reply'
+      returned = ap (λ (i : ℕ). take i reply') em ∙ take_min size reply' ∙ ap (λ (i : ℕ). take i reply') (sym (length-take-le size out' fits))
 
       back : (take (m - 0) (piece' ++ drop (m - 0) reply') ≡ noisy s.back (take m reply'))
           × (piece' ++ drop (m - 0) reply' ≡ over (noisy s.back (take m reply')) reply')
       back = laid s.back reply' piece' m (omega arith) back-noise
 
-      reader_is : ◌≡◌ {A = Handed} (record { number = a; bytes = read'; marks = marks' }) (reader W C)
+      reader_is : ◌≡◌ {A = Handed} (record { number = number_given asked; bytes = read'; marks = marks' }) (reader W C)
       reader_is =
-          handed_is n s.code (take (m - 0) (piece' ++ drop (m - 0) reply')) s.read s.marks a read' marks' handed
+          handed_is n s.code (take (m - 0) (piece' ++ drop (m - 0) reply')) s.read s.marks (number_given asked) read' marks' handed
           ∙ ap (λ (l : List ℕ). ours.reader n s.code l s.read s.marks) (back.0 ∙ ap (noisy s.back) returned)

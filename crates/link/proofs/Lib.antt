@@ -8,6 +8,7 @@ pub mod Held
 pub mod DemandLaws
 pub mod Carrying
 pub mod StoryLaws
+pub mod Results
 pub mod CarryLaws
 pub mod FairFrames
 pub mod ClearedCells

@@ -2,6 +2,8 @@
 use Rattle.std.specs.Prelude.{ℕ, ◌≤◌, ◌≡◌, List, [], ◌∷◌}
 use Rattle.lent.specs.Bytes.{Bytes}
 use Rattle.lent.specs.Memory.{over}
+use Rattle.lent.specs.Number.{number_given}
+use Rattle.chain.specs.Flat.{heard}
 use Rattle.registers.specs.State.{Sound}
 use Rattle.link.specs.Rig.{ours}
 use Rattle.link.specs.Sending.{Sending}
@@ -12,11 +14,11 @@ use Rattle.link.specs.declared.Carried.{Carried}
 -- what is seen of a call: its result, and the lent registers, bytes and marks at exit
 abbrev pub seen : Carried → List ℕ → List ℕ → List ℕ → Seen
 seen r registers bytes marks = record {
-  made = r.made;
-  number = r.number;
-  word = r.word;
+  made = number_given r.made;
+  number = (heard r.heard).number;
+  word = (heard r.heard).word;
   registers = registers;
-  asked = r.asked;
+  asked = number_given r.asked;
   bytes = bytes;
   marks = marks;
 }

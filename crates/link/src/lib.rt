@@ -1,34 +1,28 @@
 // The link: one frame over a noisy wire, from the writer through the chain to the reader.
 #![tactic(auto)]
 
-ghost use Rattle.std.specs.Prelude.{◌≡◌, min};
+ghost use Rattle.std.specs.Prelude.{◌≡◌};
 ghost use Rattle.pec.specs.Noise.{noisy};
 ghost use Rattle.link.specs.Carry.{Carries};
 
-// The writer's number; the chain's number and word; the reader's number.
+use lent::refusal::Refusal;
+
+// What the writer, the chain and the reader gave.
 #[derive(Clone, Copy)]
 pub struct Carried {
-    pub made: u8,
-    pub number: u8,
-    pub word: u16,
-    pub asked: u8,
-}
-
-fn least(a: usize, b: usize) -> usize
-    ensures { result ≡ min a b }
-{
-    if a < b { a } else { b }
+    pub made: Result<(), Refusal>,
+    pub heard: Result<u16, Refusal>,
+    pub asked: Result<(), Refusal>,
 }
 
 // Noise on bytes that pass: each bit is flipped where the mask has a 1.
 fn lay_noise(mask: &[u8], part: &mut [u8])
     ensures { part.new ≡ noisy mask.now part.old }
 {
-    let end = least(mask.len(), part.len());
-    let mut i = 0;
-    while i < end {
-        part[i] = part[i] ^ mask[i];
-        i += 1;
+    // By index: after a `for` over `part.iter_mut().zip(mask)` a proof knows how many bytes the part has, and not which.
+    let end = mask.len().min(part.len());
+    for i in 0..end {
+        part[i] ^= mask[i];
     }
 }
 
@@ -57,16 +51,15 @@ pub fn carry(
     }) state.old result out.new state.new reply.new read.new marks.new }
 {
     let written = frames::writer::write(n, code, bytes, out);
-    let length = written.length;
+    let length = written.unwrap_or(0);
     lay_noise(forth, &mut out[0..length]);
     let heard = chain::serve(n, &out[0..length], state, reply);
-    let returned = least(length, reply.len());
+    let returned = length.min(reply.len());
     lay_noise(back, &mut reply[0..returned]);
     let asked = host::reader::read(n, code, &reply[0..returned], read, marks);
     Carried {
-        made: written.number,
-        number: heard.number,
-        word: heard.word,
+        made: written.and(Ok(())),
+        heard,
         asked,
     }
 }
