@@ -1,10 +1,13 @@
 -- Two results that a statement of this crate allows are equal. Assumes nothing.
-use mathlib.Core.Path.{◌≡◌, sym, ap₂, ◌∙◌}
+use mathlib.Core.Path.{◌≡◌, refl, sym, ap, ap₂, ◌∙◌}
 use mathlib.Core.List.{List}
 use Prim.Native.Nat.{ℕ}
+use Rattle.std.specs.Prelude.{Result, Ok, Err}
 use Rattle.lent.specs.declared.Written.{Written}
+use Rattle.lent.specs.declared.refusal.Refusal.{Refusal}
+use Rattle.lent.proofs.Refusals.{given_of, refused}
 use Rattle.wirelog.specs.Put.{Puts}
-use Rattle.wirelog.specs.Found.{FindsAt}
+use Rattle.wirelog.specs.Found.{Answer, answered, FindsAt}
 use Rattle.wirelog.specs.Flat.{LaysFlat}
 use Rattle.wirelog.specs.Walk.{Walks}
 use Rattle.wirelog.specs.declared.record.Found.{Found}
@@ -21,8 +24,22 @@ put_determined kind body out r r' after after' p p' = (
   p.output ∙ sym p'.output,
 )
 
-pub found_determined : (log : List ℕ) (place : ℕ) (r r' : Found) → FindsAt log place r → FindsAt log place r' → r ≡ r'
-found_determined log place r r' f f' = f.found ∙ sym f'.found
+-- what the reader gave that says an answer
+given : Answer → Result Found Refusal
+given (Answer.Record kind body len next) = Ok (Found.Record kind body len next)
+given (Answer.Unknown kind next) = Ok (Found.Unknown kind next)
+given Answer.End = Ok Found.End
+given (Answer.Refused n) = given_of n Found.End
+
+given_answered : (r : Result Found Refusal) → given (answered r) ≡ r
+unfolding given answered
+given_answered (Ok (Found.Record kind body len next)) = refl
+given_answered (Ok (Found.Unknown kind next)) = refl
+given_answered (Ok Found.End) = refl
+given_answered (Err refusal) = refused refusal Found.End
+
+pub found_determined : (log : List ℕ) (place : ℕ) (r r' : Result Found Refusal) → FindsAt log place (answered r) → FindsAt log place (answered r') → r ≡ r'
+found_determined log place r r' f f' = sym (given_answered r) ∙ ap given (f.found ∙ sym f'.found) ∙ given_answered r'
 
 pub flat_determined : (log : List ℕ) (place : ℕ) (r r' : FlatRecord) → LaysFlat log place r → LaysFlat log place r' → r ≡ r'
 flat_determined log place r r' f f' = f.laid ∙ sym f'.laid

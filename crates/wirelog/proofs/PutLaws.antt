@@ -1,13 +1,14 @@
 -- The writer's number, case by case, and what it gives at each. Assumes nothing.
 use mathlib.Core.Path.{◌≡◌, sym, ap, ◌∙◌}
 use mathlib.Core.Bool.{true, false}
-use mathlib.Core.List.{List, ◌++◌, append-nil}
-use Prim.Native.Nat.{ℕ, suc, ◌+◌, ◌≤◌, ◌<◌}
+use mathlib.Core.List.{List, [], ◌∷◌, ◌++◌, append-nil}
+use Prim.Native.Nat.{ℕ, suc, ◌+◌, ◌/◌, ◌%◌, ◌≤◌, ◌<◌}
 use native.Mathlib.Omega.{arith}
 use borrow.Author.Tests.{lt-ltb, le-ltb, eq-eqb}
 use lib.Dec.{eqb, eqb-suc-zero}
 use lib.ListN.{length, take, drop, drop_of_length-le}
 use lib.Seq.{take-length}
+use Rattle.lent.specs.LowFirst.{low_first}
 use Rattle.lent.specs.Memory.{over}
 use Rattle.lent.specs.Refusal.{pick, first}
 use Rattle.lent.proofs.Pick.{pick_true, pick_false}
@@ -18,6 +19,11 @@ use Rattle.wirelog.specs.Put.{put_number, Puts}
 -- a body copied into a part of its length
 pub copied : (body part : List ℕ) → length part ≡ length body → take (length body) body ++ drop (length body) part ≡ body
 copied body part h = rw (take-length body, drop_of_length-le part {i = length body} (omega arith), append-nil)
+
+-- the bytes of a number of 16 bits, as the code takes them
+pub bytes_of_two : (n : ℕ) → n < 65536 → n % 256 ∷ n / 256 % 256 ∷ [] ≡ low_first n
+unfolding low_first
+bytes_of_two n h = ap (λ (x : ℕ). n % 256 ∷ x ∷ []) (omega arith)
 
 module _ (kind : ℕ) (body out : List ℕ) where
   pub unknown_kind : known kind ≡ false → put_number kind body out ≡ 11

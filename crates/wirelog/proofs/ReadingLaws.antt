@@ -10,43 +10,42 @@ use lib.Seq.{drop-drop}
 use Rattle.lent.specs.Bytes.{Bytes}
 use Rattle.lent.specs.Refusal.{pick}
 use Rattle.wirelog.specs.Kinds.{known}
-use Rattle.wirelog.specs.Found.{found_at}
+use Rattle.wirelog.specs.Found.{Answer, found_at}
 use Rattle.wirelog.specs.Walk.{past}
 use Rattle.wirelog.specs.Rows.{bytes_of, Reading, OneReading, RowOf, WholeIsRow}
-use Rattle.wirelog.specs.declared.record.Found.{Found}
 use Rattle.wirelog.specs.declared.walk.Walked.{Walked}
 use Rattle.wirelog.proofs.RecordLaws.{record_there, record_next, unknown_kind, end_there, refused_number}
 use Rattle.wirelog.proofs.WalkSteps.{Goes, walks_goes}
 use Rattle.wirelog.proofs.Undone.{lawful_there, writes_back}
 
 -- ONE READING: what stands at its start is what is found there
-pub record Then (log : List ℕ) (here : Found) (next : ℕ) (found : List Found) : Type 0 where
-  pub rest : List Found
+pub record Then (log : List ℕ) (here : Answer) (next : ℕ) (found : List Answer) : Type 0 where
+  pub rest : List Answer
   pub made : found ≡ here ∷ rest
   pub there : Reading log next rest
 
 module _ (log : List ℕ) where
-  abbrev Starts : List Found → Found → Type 0
-  Starts found (Found.Record kind body len next) = Then log (Found.Record kind body len next) next found
-  Starts found (Found.Unknown kind next) = Then log (Found.Unknown kind next) next found
-  Starts found Found.End = found ≡ []
-  Starts found (Found.Refused number) = Unit {0}
+  abbrev Starts : List Answer → Answer → Type 0
+  Starts found (Answer.Record kind body len next) = Then log (Answer.Record kind body len next) next found
+  Starts found (Answer.Unknown kind next) = Then log (Answer.Unknown kind next) next found
+  Starts found Answer.End = found ≡ []
+  Starts found (Answer.Refused number) = Unit {0}
 
-  starts : {place : ℕ} {found : List Found} → Reading log place found → Starts found (found_at log place)
+  starts : {place : ℕ} {found : List Answer} → Reading log place found → Starts found (found_at log place)
   starts (Reading.ended place e) = subst (Starts []) (sym e) refl
   starts (Reading.known place kind body len next rest e r) =
-      subst (Starts (Found.Record kind body len next ∷ rest)) (sym e) (record { rest = rest; made = refl; there = r })
+      subst (Starts (Answer.Record kind body len next ∷ rest)) (sym e) (record { rest = rest; made = refl; there = r })
   starts (Reading.unknown place kind next rest e r) =
-      subst (Starts (Found.Unknown kind next ∷ rest)) (sym e) (record { rest = rest; made = refl; there = r })
+      subst (Starts (Answer.Unknown kind next ∷ rest)) (sym e) (record { rest = rest; made = refl; there = r })
 
-  same : {place : ℕ} {found : List Found} (found' : List Found) → Reading log place found → Reading log place found' → found ≡ found'
+  same : {place : ℕ} {found : List Answer} (found' : List Answer) → Reading log place found → Reading log place found' → found ≡ found'
   same found' (Reading.ended place e) r' = sym (subst (Starts found') e (starts r'))
   same found' (Reading.known place kind body len next rest e r) r' =
       let t = subst (Starts found') e (starts r') in
-      ap (λ (l : List Found). Found.Record kind body len next ∷ l) (same t.rest r t.there) ∙ sym t.made
+      ap (λ (l : List Answer). Answer.Record kind body len next ∷ l) (same t.rest r t.there) ∙ sym t.made
   same found' (Reading.unknown place kind next rest e r) r' =
       let t = subst (Starts found') e (starts r') in
-      ap (λ (l : List Found). Found.Unknown kind next ∷ l) (same t.rest r t.there) ∙ sym t.made
+      ap (λ (l : List Answer). Answer.Unknown kind next ∷ l) (same t.rest r t.there) ∙ sym t.made
 
 pub one_reading : OneReading
 one_reading log place found found' r r' = same log found' r r'

@@ -9,8 +9,7 @@ use lib.Dec.{eqb}
 use lib.ListN.{length}
 use Rattle.wirelog.specs.Kinds.{known, within}
 use Rattle.wirelog.specs.Record.{length_at, kind_at, body_at}
-use Rattle.wirelog.specs.Found.{whole_at, found_at}
-use Rattle.wirelog.specs.declared.record.Found.{Found}
+use Rattle.wirelog.specs.Found.{Answer, whole_at, found_at}
 use Rattle.wirelog.proofs.FoundLaws.{whole, at_end, not_whole, not_known, not_within, is_record}
 
 module _ (log : List ℕ) (place : ℕ) where
@@ -25,11 +24,11 @@ module _ (log : List ℕ) (place : ℕ) where
     pub next_there : next ≡ place + 2 + length_at log place
 
   -- by the answer: a record, an unknown kind, the end, a refusal
-  abbrev Tells : Found → Type 0
-  Tells (Found.Record kind body len next) = Recorded kind body len next
-  Tells (Found.Unknown kind next) = (known kind ≡ false) × ((place < next) × (next ≤ length log))
-  Tells Found.End = place ≡ length log
-  Tells (Found.Refused number) = number ≡ 0 → ⊥
+  abbrev Tells : Answer → Type 0
+  Tells (Answer.Record kind body len next) = Recorded kind body len next
+  Tells (Answer.Unknown kind next) = (known kind ≡ false) × ((place < next) × (next ≤ length log))
+  Tells Answer.End = place ≡ length log
+  Tells (Answer.Refused number) = number ≡ 0 → ⊥
 
   module _ (apart : place ≡ length log → ⊥) (w : whole_at log place ≡ true) where
     by_limits : known (kind_at log place) ≡ true → (b : Bool) → within (kind_at log place) (body_at log place) ≡ b → Tells (found_at log place)
@@ -65,23 +64,23 @@ module _ (log : List ℕ) (place : ℕ) where
   tells : Tells (found_at log place)
   tells = by_end (eqb place (length log)) refl
 
-  pub record_there : (kind body len next : ℕ) → found_at log place ≡ Found.Record kind body len next → Recorded kind body len next
+  pub record_there : (kind body len next : ℕ) → found_at log place ≡ Answer.Record kind body len next → Recorded kind body len next
   record_there kind body len next e = subst Tells e tells
 
-  pub unknown_kind : (kind next : ℕ) → found_at log place ≡ Found.Unknown kind next → known kind ≡ false
+  pub unknown_kind : (kind next : ℕ) → found_at log place ≡ Answer.Unknown kind next → known kind ≡ false
   unknown_kind kind next e = (subst Tells e tells).0
 
-  pub end_there : found_at log place ≡ Found.End → place ≡ length log
+  pub end_there : found_at log place ≡ Answer.End → place ≡ length log
   end_there e = subst Tells e tells
 
-  pub refused_number : (number : ℕ) → found_at log place ≡ Found.Refused number → number ≡ 0 → ⊥
+  pub refused_number : (number : ℕ) → found_at log place ≡ Answer.Refused number → number ≡ 0 → ⊥
   refused_number number e = subst Tells e tells
 
   -- NEXT is past the place, and within the log
-  pub record_next : (kind body len next : ℕ) → found_at log place ≡ Found.Record kind body len next → (place < next) × (next ≤ length log)
+  pub record_next : (kind body len next : ℕ) → found_at log place ≡ Answer.Record kind body len next → (place < next) × (next ≤ length log)
   record_next kind body len next e =
       let r = record_there kind body len next e in
       (omega (arith, r.counts, r.next_there), omega (arith, r.inside, r.next_there))
 
-  pub unknown_next : (kind next : ℕ) → found_at log place ≡ Found.Unknown kind next → (place < next) × (next ≤ length log)
+  pub unknown_next : (kind next : ℕ) → found_at log place ≡ Answer.Unknown kind next → (place < next) × (next ≤ length log)
   unknown_next kind next e = (subst Tells e tells).1

@@ -10,10 +10,9 @@ use lib.Seq.{drop_at, take_at}
 use Rattle.lent.specs.Refusal.{pick}
 use Rattle.wirelog.specs.Kinds.{known, lawful}
 use Rattle.wirelog.specs.Record.{record_of}
-use Rattle.wirelog.specs.Found.{found_at}
+use Rattle.wirelog.specs.Found.{Answer, found_at}
 use Rattle.wirelog.specs.Walk.{start, past}
 use Rattle.wirelog.specs.Rows.{Item, AllLawful, bytes_of, of_kind, RowsApart, WalksRows}
-use Rattle.wirelog.specs.declared.record.Found.{Found}
 use Rattle.wirelog.specs.declared.walk.Walked.{Walked}
 use Rattle.wirelog.proofs.KindLaws.{lawful_known}
 use Rattle.wirelog.proofs.FoundLaws.{at_end}
@@ -22,17 +21,17 @@ use Rattle.wirelog.proofs.WalkSteps.{Goes, goes_walks}
 use Rattle.wirelog.proofs.Determined.{walk_determined}
 
 -- ROWS APART. Kind and length that an answer gives, and what stands first in the log of a row:
-abbrev kind_in : Found → ℕ
-kind_in (Found.Record kind body len next) = kind
-kind_in (Found.Unknown kind next) = kind
-kind_in Found.End = 0
-kind_in (Found.Refused number) = 0
+abbrev kind_in : Answer → ℕ
+kind_in (Answer.Record kind body len next) = kind
+kind_in (Answer.Unknown kind next) = kind
+kind_in Answer.End = 0
+kind_in (Answer.Refused number) = 0
 
-abbrev len_in : Found → ℕ
-len_in (Found.Record kind body len next) = len
-len_in (Found.Unknown kind next) = 0
-len_in Found.End = 0
-len_in (Found.Refused number) = 0
+abbrev len_in : Answer → ℕ
+len_in (Answer.Record kind body len next) = len
+len_in (Answer.Unknown kind next) = 0
+len_in Answer.End = 0
+len_in (Answer.Refused number) = 0
 
 module _ (item : Item) (row : List Item) where
   first_kind : lawful item.0 item.1 ≡ true → kind_in (found_at (bytes_of (item ∷ row)) 0) ≡ item.0
@@ -101,8 +100,8 @@ goes_row before (item ∷ row) w h a =
     let this = record_of item.0 item.1 in
     let log = before ++ (this ++ bytes_of row) in
     let next = w.at + (4 + length item.1) in
-    let found : found_at log w.at ≡ Found.Record item.0 (w.at + 4) (length item.1) next =
-    subst (λ (i : ℕ). found_at log i ≡ Found.Record item.0 (i + 4) (length item.1) (i + (4 + length item.1))) (sym h)
+    let found : found_at log w.at ≡ Answer.Record item.0 (w.at + 4) (length item.1) next =
+    subst (λ (i : ℕ). found_at log i ≡ Answer.Record item.0 (i + 4) (length item.1) (i + (4 + length item.1))) (sym h)
     (reads_back item.0 item.1 before (bytes_of row) a.0) in
     let there : (past w item.0 next).at ≡ length (before ++ this) = unfold past in omega (arith, length-append before this, length_record item.0 item.1) in
     Goes.passes w item.0 (w.at + 4) (length item.1) next found

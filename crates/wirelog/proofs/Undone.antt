@@ -18,8 +18,7 @@ use Rattle.lent.proofs.Pick.{pick_true}
 use Rattle.wirelog.specs.Kinds.{known, within, lawful}
 use Rattle.wirelog.specs.Record.{record_of, length_at, kind_at, next_at, body_at}
 use Rattle.wirelog.specs.Put.{put_number, Puts}
-use Rattle.wirelog.specs.Found.{found_at}
-use Rattle.wirelog.specs.declared.record.Found.{Found}
+use Rattle.wirelog.specs.Found.{Answer, found_at}
 use Rattle.wirelog.proofs.KindLaws.{lawful_known, lawful_within}
 use Rattle.wirelog.proofs.PutLaws.{none}
 use Rattle.wirelog.proofs.FoundLaws.{is_whole, is_record}
@@ -63,7 +62,7 @@ module _ (kind : ℕ) (body before after : List ℕ) where
   inside : place + 4 + length body ≤ length log
   inside = omega (arith, length-append before (record_of kind body ++ after), length-append (record_of kind body) after, length_record kind body)
 
-  pub reads_back : lawful kind body ≡ true → found_at log place ≡ Found.Record kind (place + 4) (length body) (place + (4 + length body))
+  pub reads_back : lawful kind body ≡ true → found_at log place ≡ Answer.Record kind (place + 4) (length body) (place + (4 + length body))
   unfolding next_at
   reads_back h =
       let l = length_there in
@@ -72,11 +71,11 @@ module _ (kind : ℕ) (body before after : List ℕ) where
       is_record log place (λ e. omega (arith, inside)) (is_whole log place (omega arith) (omega (arith, inside)))
       (ap known kind_there ∙ lawful_known kind body h)
       (ap₂ within kind_there body_there ∙ lawful_within kind body h)
-      ∙ ap (λ (k : ℕ). Found.Record k (place + 4) (length_at log place - 2) (place + 2 + length_at log place)) kind_there
-      ∙ ap₂ (λ (n m : ℕ). Found.Record kind (place + 4) n m) size next
+      ∙ ap (λ (k : ℕ). Answer.Record k (place + 4) (length_at log place - 2) (place + 2 + length_at log place)) kind_there
+      ∙ ap₂ (λ (n m : ℕ). Answer.Record kind (place + 4) n m) size next
 
 -- READ, THEN WRITTEN: the record of what was found is what stands there
-module _ (log : List ℕ) (place kind body len next : ℕ) (b : Bytes log) (e : found_at log place ≡ Found.Record kind body len next) where
+module _ (log : List ℕ) (place kind body len next : ℕ) (b : Bytes log) (e : found_at log place ≡ Answer.Record kind body len next) where
   there : Recorded log place kind body len next
   there = record_there log place kind body len next e
 
@@ -134,11 +133,11 @@ module _ (kind : ℕ) (body out : List ℕ) (r : Written) (out' : List ℕ) (w :
 
   module _ (before after : List ℕ) where
     pub put_then_read : found_at (before ++ (take r.length out' ++ after)) (length before)
-        ≡ Found.Record kind (length before + 4) (length body) (length before + r.length)
+        ≡ Answer.Record kind (length before + 4) (length body) (length before + r.length)
     put_then_read =
         ap (λ (l : List ℕ). found_at (before ++ (l ++ after)) (length before)) wrote
         ∙ reads_back kind body before after (put_lawful kind body out (sym w.number ∙ z))
-        ∙ ap (λ (n : ℕ). Found.Record kind (length before + 4) (length body) (length before + n)) (sym long_put)
+        ∙ ap (λ (n : ℕ). Answer.Record kind (length before + 4) (length body) (length before + n)) (sym long_put)
 
     pub body_then_read : take (length body) (drop (length before + 4) (before ++ (take r.length out' ++ after))) ≡ body
     body_then_read =
@@ -146,7 +145,7 @@ module _ (kind : ℕ) (body out : List ℕ) (r : Written) (out' : List ℕ) (w :
         ∙ ap (take (length body)) (body_from kind body before after)
         ∙ take_at body after (length body) refl
 
-module _ (log : List ℕ) (place kind body len next : ℕ) (b : Bytes log) (e : found_at log place ≡ Found.Record kind body len next) (out : List ℕ) (r : Written)
+module _ (log : List ℕ) (place kind body len next : ℕ) (b : Bytes log) (e : found_at log place ≡ Answer.Record kind body len next) (out : List ℕ) (r : Written)
     (out' : List ℕ) (w : Puts kind (take len (drop body log)) out r out') (room : next - place ≤ length out) where
   pub read_then_put : (r.number ≡ 0) × (r.length ≡ next - place) × (take (next - place) out' ≡ take (next - place) (drop place log))
   read_then_put =

@@ -10,8 +10,7 @@ use lib.ListN.{length}
 use Rattle.lent.specs.Refusal.{pick}
 use Rattle.wirelog.specs.Kinds.{known}
 use Rattle.wirelog.specs.Walk.{start, past, Fits, Stops, Walks}
-use Rattle.wirelog.specs.Found.{found_at}
-use Rattle.wirelog.specs.declared.record.Found.{Found}
+use Rattle.wirelog.specs.Found.{Answer, found_at}
 use Rattle.wirelog.specs.declared.walk.Walked.{Walked}
 use Rattle.wirelog.proofs.WalkSteps.{Goes, walks_goes}
 
@@ -72,7 +71,7 @@ goes_stops : (log : List ℕ) (r : Walked) {w : Walked} → Goes log r w → w.n
 unfolding past
 goes_stops log r (Goes.ends w e q) z = inl (ap (λ (v : Walked). v.number) q ∙ z, ap (λ (v : Walked). found_at log v.at) q ∙ e)
 goes_stops log r (Goes.refused w number e q) z =
-    inr (ap (λ (v : Walked). found_at log v.at) q ∙ e ∙ ap (λ (v : Walked). Found.Refused v.number) (sym q))
+    inr (ap (λ (v : Walked). found_at log v.at) q ∙ e ∙ ap (λ (v : Walked). Answer.Refused v.number) (sym q))
 goes_stops log r (Goes.passes w kind body len next e g) z = goes_stops log r g z
 goes_stops log r (Goes.passes_unknown w kind next e g) z = goes_stops log r g z
 

@@ -4,22 +4,21 @@ use Rattle.lent.specs.Bytes.{Bytes}
 use Rattle.lent.specs.Refusal.{pick}
 use Rattle.wirelog.specs.Kinds.{lawful}
 use Rattle.wirelog.specs.Record.{record_of}
-use Rattle.wirelog.specs.Found.{found_at}
+use Rattle.wirelog.specs.Found.{Answer, found_at}
 use Rattle.wirelog.specs.Walk.{Walks}
-use Rattle.wirelog.specs.declared.record.Found.{Found}
 use Rattle.wirelog.specs.declared.walk.Walked.{Walked}
 
 -- What is found at a place of a log and, from there on, at each next place, to the end.
-pub data Reading (log : List ℕ) : ℕ → List Found → Type 0 where
-  ended : (place : ℕ) → found_at log place ≡ Found.End → Reading log place []
-  known : (place kind body len next : ℕ) (rest : List Found) → found_at log place ≡ Found.Record kind body len next → Reading log next rest
-      → Reading log place (Found.Record kind body len next ∷ rest)
-  unknown : (place kind next : ℕ) (rest : List Found) → found_at log place ≡ Found.Unknown kind next → Reading log next rest
-      → Reading log place (Found.Unknown kind next ∷ rest)
+pub data Reading (log : List ℕ) : ℕ → List Answer → Type 0 where
+  ended : (place : ℕ) → found_at log place ≡ Answer.End → Reading log place []
+  known : (place kind body len next : ℕ) (rest : List Answer) → found_at log place ≡ Answer.Record kind body len next → Reading log next rest
+      → Reading log place (Answer.Record kind body len next ∷ rest)
+  unknown : (place kind next : ℕ) (rest : List Answer) → found_at log place ≡ Answer.Unknown kind next → Reading log next rest
+      → Reading log place (Answer.Unknown kind next ∷ rest)
 
 -- A LOG HAS ONE READING
 abbrev pub OneReading : Type 0
-OneReading = (log : List ℕ) (place : ℕ) (found found' : List Found) → Reading log place found → Reading log place found' → found ≡ found'
+OneReading = (log : List ℕ) (place : ℕ) (found found' : List Answer) → Reading log place found → Reading log place found' → found ≡ found'
 
 -- a kind and a body
 abbrev pub Item : Type 0

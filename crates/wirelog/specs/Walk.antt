@@ -2,8 +2,7 @@
 use Rattle.std.specs.Prelude.{ℕ, zero, suc, ◌+◌, ◌<◌, ◌^◌, ◌≡◌, not, ◌⊎◌, List, eqb, length}
 use Rattle.lent.specs.Refusal.{pick}
 use Rattle.wirelog.specs.Kinds.{known}
-use Rattle.wirelog.specs.Found.{found_at}
-use Rattle.wirelog.specs.declared.record.Found.{Found}
+use Rattle.wirelog.specs.Found.{Answer, found_at}
 use Rattle.wirelog.specs.declared.walk.Walked.{Walked}
 
 abbrev pub start : Walked
@@ -35,11 +34,11 @@ pub record Fits (w : Walked) : Type 0 where
   pub unknown : w.unknown + 1 < 2 ^ 64
 
 -- A walk that has come to w, by what it finds there; `on` is the rest of the walk.
-abbrev pub step : (Walked → Walked) → Walked → Found → Walked
-step on w (Found.Record kind body len next) = on (past w kind next)
-step on w (Found.Unknown kind next) = on (past w kind next)
-step on w Found.End = w
-step on w (Found.Refused number) = stopped w number
+abbrev pub step : (Walked → Walked) → Walked → Answer → Walked
+step on w (Answer.Record kind body len next) = on (past w kind next)
+step on w (Answer.Unknown kind next) = on (past w kind next)
+step on w Answer.End = w
+step on w (Answer.Refused number) = stopped w number
 
 unfoldable pub walk_from : ℕ → List ℕ → Walked → Walked
 walk_from zero log w = w
@@ -47,7 +46,7 @@ walk_from (suc steps) log w = step (walk_from steps log) w (found_at log w.at)
 
 -- Why a walk stopped: it was at the log's end, with number 0, or at a record that is refused, with its number.
 abbrev pub Stops : List ℕ → Walked → Type 0
-Stops log r = ((r.number ≡ 0) × (found_at log r.at ≡ Found.End)) ⊎ (found_at log r.at ≡ Found.Refused r.number)
+Stops log r = ((r.number ≡ 0) × (found_at log r.at ≡ Answer.End)) ⊎ (found_at log r.at ≡ Answer.Refused r.number)
 
 -- What `walk` promises. Each step passes a byte at least, so that one step more than the log has bytes is enough to stop.
 pub record Walks (log : List ℕ) (r : Walked) : Type 0 where

@@ -1,11 +1,14 @@
 // The reader's answer as one record of numbers, for C.
-ghost use Rattle.wirelog.specs.Flat.{LaysFlat};
+ghost use Rattle.std.specs.Prelude.{◌≡◌};
+ghost use Rattle.wirelog.specs.Found.{answered};
+ghost use Rattle.wirelog.specs.Flat.{flat, LaysFlat};
 
 use crate::record;
 use crate::record::Found;
+use lent::refusal::Refusal;
 
 #[repr(C)]
-#[derive(Clone, Copy)]
+#[derive(Clone, Copy, Default)]
 pub struct FlatRecord {
     pub number: u8,
     pub end: u8,
@@ -15,47 +18,41 @@ pub struct FlatRecord {
     pub next: usize,
 }
 
-// What stands at a place of a log; every field 0 that the answer does not give.
+// Every field is 0 that the answer does not give.
+impl From<Result<Found, Refusal>> for FlatRecord {
+    ghost from_gives = { λ given laid. laid ≡ flat (answered given) };
+
+    #[tactic(auto, unfolding(crate::specs::Found::answered))]
+    fn from(given: Result<Found, Refusal>) -> FlatRecord {
+        let none = FlatRecord::default();
+        match given {
+            Ok(
+                Found::Record {
+                    kind,
+                    body,
+                    body_len,
+                    next,
+                },
+            ) => FlatRecord {
+                kind,
+                body,
+                body_len,
+                next,
+                ..none
+            },
+            Ok(Found::Unknown { kind, next }) => FlatRecord { kind, next, ..none },
+            Ok(Found::End) => FlatRecord { end: 1, ..none },
+            Err(refusal) => FlatRecord {
+                number: u8::from(refusal),
+                ..none
+            },
+        }
+    }
+}
+
+// What stands at a place of a log.
 pub fn record_at(log: &[u8], place: usize) -> FlatRecord
     ensures { LaysFlat log.now place result }
 {
-    match record::record_at(log, place) {
-        Found::Record {
-            kind,
-            body,
-            body_len,
-            next,
-        } => FlatRecord {
-            number: 0,
-            end: 0,
-            kind,
-            body,
-            body_len,
-            next,
-        },
-        Found::Unknown { kind, next } => FlatRecord {
-            number: 0,
-            end: 0,
-            kind,
-            body: 0,
-            body_len: 0,
-            next,
-        },
-        Found::End => FlatRecord {
-            number: 0,
-            end: 1,
-            kind: 0,
-            body: 0,
-            body_len: 0,
-            next: 0,
-        },
-        Found::Refused { number } => FlatRecord {
-            number,
-            end: 0,
-            kind: 0,
-            body: 0,
-            body_len: 0,
-            next: 0,
-        },
-    }
+    FlatRecord::from(record::record_at(log, place))
 }

@@ -1,4 +1,4 @@
-// The four kinds of records, and what the body of each may be.
+// The four kinds of records, and what the body of each may be. They are numbers, since a log may hold any other, and that is no fault.
 ghost use Rattle.std.specs.Prelude.{◌≡◌};
 ghost use Rattle.wirelog.specs.Kinds.{known, size_body, within};
 
@@ -14,37 +14,32 @@ pub const REPLY: u32 = 3;
 pub const NOTE: u32 = 4;
 
 // Whether a kind is one of the four.
+#[tactic(auto, unfolding(crate::specs::Kinds::known))]
 pub fn is_known(kind: u32) -> bool
     ensures { result ≡ known kind }
 {
-    if kind < SIZE {
-        return false;
-    }
-    kind <= NOTE
+    (SIZE..=NOTE).contains(&kind)
 }
 
 // Whether a body is one byte, 1 to 16.
+#[tactic(auto, unfolding(crate::specs::Kinds::size_body))]
 fn is_size(body: &[u8]) -> bool
     ensures { result ≡ size_body body.now }
 {
-    if body.len() != 1 {
-        return false;
+    match *body {
+        [n] => (1..=16).contains(&n),
+        _ => false,
     }
-    if body[0] < 1 {
-        return false;
-    }
-    body[0] <= 16
 }
 
 // Whether a body is within the limits of its kind, one of the four.
+#[tactic(auto, unfolding(crate::specs::Kinds::within, lent::specs::Refusal::pick))]
 pub fn is_within(kind: u32, body: &[u8]) -> bool
     ensures { result ≡ within kind body.now }
 {
-    if kind == SIZE {
-        return is_size(body);
+    match kind {
+        SIZE => is_size(body),
+        NOTE => body.len() <= 200,
+        _ => body.len() <= 132,
     }
-    if kind == NOTE {
-        return body.len() <= 200;
-    }
-    body.len() <= 132
 }

@@ -1,42 +1,50 @@
 -- `wirelog::walk::walk`: what is found says where the next turn begins, and what the walk comes to. Assumes nothing.
-use Rattle.std.proofs.Common.{refl, sym, ap, subst, arith}
-use Rattle.wirelog.specs.Walk.{past}
+use Rattle.std.proofs.Common.{refl, sym, ap, subst, arith, Ok}
+use Rattle.wirelog.specs.Found.{answered}
+use Rattle.wirelog.specs.Walk.{past, stopped}
 use Rattle.wirelog.specs.declared.walk.Walked.{Walked}
-use Rattle.wirelog.proofs.FoundLaws.{at_end}
+use Rattle.wirelog.proofs.FoundLaws.{found_is}
 use Rattle.wirelog.proofs.RecordLaws.{record_next, unknown_next}
 use Rattle.wirelog.proofs.WalkSteps.{Goes, goes_walks}
 use Rattle.wirelog.proofs.WalkLaws.{Here, here_next}
 use Rattle.wirelog.proofs.walk.walk.Goals as goal
 
-pub loop-walked-smaller-in-Record : goal.loop-walked-smaller-in-Record
-unfolding past
-loop-walked-smaller-in-Record c =
-    let next = record_next _ _ _ _ _ _ (sym c.in-Record.ensures.found) in
+pub loop-kind-smaller-in-Ok-Record : goal.loop-kind-smaller-in-Ok-Record
+unfolding past answered
+loop-kind-smaller-in-Ok-Record c =
+    let found = found_is c.in-Ok-Record.ensures (ap Ok c.in-Ok-Record.field-0-is) in
+    let next = record_next _ _ _ _ _ _ found in
     omega (arith, next.0, next.1, ap (λ (w : Walked). w.at) c.past_one-walked.ensures)
 
-pub loop-walked-preserved-in-Record : goal.loop-walked-preserved-in-Record
-loop-walked-preserved-in-Record c =
-    let e = sym c.in-Record.ensures.found in
+pub loop-kind-preserved-in-Ok-Record : goal.loop-kind-preserved-in-Ok-Record
+unfolding answered
+loop-kind-preserved-in-Ok-Record c =
+    let found = found_is c.in-Ok-Record.ensures (ap Ok c.in-Ok-Record.field-0-is) in
     subst (Here _) (sym c.past_one-walked.ensures)
-    (here_next _ _ _ _ c.loop-walked.invariant (record_next _ _ _ _ _ _ e) (λ r g. Goes.passes _ _ _ _ _ e g))
+    (here_next _ _ _ _ c.loop-kind.invariant (record_next _ _ _ _ _ _ found) (λ r g. Goes.passes _ _ _ _ _ found g))
 
-pub loop-walked-smaller : goal.loop-walked-smaller
-unfolding past
-loop-walked-smaller c =
-    let next = unknown_next _ _ _ _ (sym c.in-Unknown.ensures.found) in
-    omega (arith, next.0, next.1, ap (λ (w : Walked). w.at) c.past_one-walked-in-Unknown.ensures)
+pub loop-kind-smaller : goal.loop-kind-smaller
+unfolding past answered
+loop-kind-smaller c =
+    let found = found_is c.in-Ok-Unknown.ensures (ap Ok c.in-Ok-Unknown.field-0-is) in
+    let next = unknown_next _ _ _ _ found in
+    omega (arith, next.0, next.1, ap (λ (w : Walked). w.at) c.past_one-walked-in-Ok-Unknown.ensures)
 
-pub loop-walked-preserved : goal.loop-walked-preserved
-loop-walked-preserved c =
-    let e = sym c.in-Unknown.ensures.found in
-    subst (Here _) (sym c.past_one-walked-in-Unknown.ensures)
-    (here_next _ _ _ _ c.loop-walked.invariant (unknown_next _ _ _ _ e) (λ r g. Goes.passes_unknown _ _ _ e g))
+pub loop-kind-preserved : goal.loop-kind-preserved
+unfolding answered
+loop-kind-preserved c =
+    let found = found_is c.in-Ok-Unknown.ensures (ap Ok c.in-Ok-Unknown.field-0-is) in
+    subst (Here _) (sym c.past_one-walked-in-Ok-Unknown.ensures)
+    (here_next _ _ _ _ c.loop-kind.invariant (unknown_next _ _ _ _ found) (λ r g. Goes.passes_unknown _ _ _ found g))
 
-pub returns-in-End : goal.returns-in-End
-returns-in-End c = goes_walks _ _ (c.loop-walked.invariant.back _ (Goes.ends _ (sym c.in-End.ensures.found) refl))
+pub returns-in-Ok-End : goal.returns-in-Ok-End
+unfolding answered
+returns-in-Ok-End c =
+    let found = found_is c.in-Ok-End.ensures (ap Ok c.in-Ok-End.field-0-is) in
+    goes_walks _ _ (c.loop-kind.invariant.back _ (Goes.ends _ found refl))
 
-pub returns-in-Refused : goal.returns-in-Refused
-returns-in-Refused c = goes_walks _ _ (c.loop-walked.invariant.back _ (Goes.refused _ _ (sym c.in-Refused.ensures.found) refl))
-
-pub returns : goal.returns
-returns c = goes_walks _ _ (c.loop-walked.invariant.back _ (Goes.ends _ (at_end _ _ (omega (arith, c.loop-walked.invariant.at))) refl))
+pub returns-in-Err : goal.returns-in-Err
+unfolding answered
+returns-in-Err c =
+    let found = sym c.in-Err.ensures.found in
+    goes_walks _ _ (c.loop-kind.invariant.back _ (Goes.refused _ _ found (ap (stopped c.loop-kind.walked) c.from.ensures)))

@@ -3,8 +3,8 @@ use Rattle.std.proofs.Common.{◌-◌, length}
 use Rattle.wirelog.proofs.WalkLaws.{Here}
 use Rattle.wirelog.proofs.walk.walk.Given as goal
 
-abbrev pub invariant-loop-walked : goal.invariant-loop-walked
-invariant-loop-walked l = Here l.log l.walked
+abbrev pub invariant-loop-kind : goal.invariant-loop-kind
+invariant-loop-kind l = Here l.log l.walked
 
-abbrev pub decreases-loop-walked : goal.decreases-loop-walked
-decreases-loop-walked l = length l.log - l.walked.at
+abbrev pub decreases-loop-kind : goal.decreases-loop-kind
+decreases-loop-kind l = length l.log - l.walked.at
