@@ -15,8 +15,8 @@ ghost use Rattle.capi.specs.Lent.{AddsLent};
 
 use cells::Readings;
 use chain::Heard;
-use conversions::{Code, Conversion};
-use lent::Written;
+use conversions::{Code, Conversion, Fields, Parts};
+use lent::{Written, refusal};
 use tally::Tally;
 use wake::Wake;
 use wirelog::flat::FlatRecord;
@@ -33,44 +33,49 @@ pub fn rig_pec(bytes: &[u8]) -> u16
 pub fn rig_write(n: u32, code: u32, data: &[u8], out: &mut [u8]) -> Written
     ensures { Wrote n code «data».now out.old result out.new }
 {
-    frames::writer::write(n, code, data, out)
+    Written::from(frames::writer::write(n, code, data, out))
 }
 
 // What a chain hears of a frame, and answers.
 pub fn rig_chain(n: u32, frame: &[u8], state: &mut [u8], reply: &mut [u8]) -> Heard
     ensures { Serves n frame.now state.old reply.old result state.new reply.new }
 {
-    chain::serve(n, frame, state, reply)
+    Heard::from(chain::serve(n, frame, state, reply))
 }
 
 // What a reply holds.
 pub fn rig_read(n: u32, code: u32, reply: &[u8], data: &mut [u8], marks: &mut [u8]) -> u8
     ensures { HandsOut n code reply.now «data».old marks.old result «data».new marks.new }
 {
-    host::reader::read(n, code, reply, data, marks)
+    refusal::number(host::reader::read(n, code, reply, data, marks))
 }
 
 // The cells of one device.
 pub fn rig_cells(groups: &[u8], marks: &[u8]) -> Readings
     ensures { ReadsCells groups.now marks.now result }
 {
-    cells::reading(groups, marks)
+    Readings::from(cells::reading(groups, marks))
 }
 
-// The tally that the controller lends and finds updated: `tally::add` by value, stored back.
+// The tally that the controller lends and finds updated; a refusal leaves it as it was.
+#[tactic(auto, unfolding(tally::specs::Tally::added))]
 pub fn rig_tally_add(tally: &mut Tally, marks: &[u8]) -> u8
     ensures { AddsLent tally.old marks.now result tally.new }
 {
-    let added = tally::add(*tally, marks);
-    *tally = added.tally;
-    added.number
+    match tally::add(*tally, marks) {
+        Ok(sum) => {
+            *tally = sum;
+            0
+        }
+        Err(refusal) => u8::from(refusal),
+    }
 }
 
 // The wait before a frame.
 pub fn rig_wake(n: u32, last: u32, clock: u32) -> Wake
     ensures { Waits n last clock result }
 {
-    wake::wait(n, last, clock)
+    Wake::from(wake::wait(n, last, clock))
 }
 
 // The code of a conversion command with its fields.
@@ -83,21 +88,27 @@ pub fn rig_conversion_code(
 ) -> Code
     ensures { Builds command mode discharge pull_up choice result }
 {
-    conversions::conversion_code(command, mode, discharge, pull_up, choice)
+    let fields = Fields {
+        mode,
+        discharge,
+        pull_up,
+        choice,
+    };
+    Code::from(conversions::conversion_code(Parts { command, fields }))
 }
 
 // The command and fields of a conversion code.
 pub fn rig_conversion_of(code: u32) -> Conversion
     ensures { TakesApart code result }
 {
-    conversions::conversion_of(code)
+    Conversion::from(conversions::conversion_of(code))
 }
 
 // A record of the wire log.
 pub fn rig_log_put(kind: u32, body: &[u8], out: &mut [u8]) -> Written
     ensures { Puts kind body.now out.old result out.new }
 {
-    wirelog::put::put(kind, body, out)
+    Written::from(wirelog::put::put(kind, body, out))
 }
 
 // The record at a place of a wire log.
