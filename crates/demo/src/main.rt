@@ -3,7 +3,10 @@
 // same frames.
 #![tactic(auto)]
 
-use std::io;
+use chain::Heard;
+use lent::refusal;
+use say::{Bytes, Hex};
+use std::{fmt, io};
 
 const WRCFGA: u32 = 0x001;
 
@@ -23,9 +26,9 @@ struct Hit {
     flips: u8,
 }
 
-fn quiet() -> Hit {
-    Hit { at: 0, flips: 0 }
-}
+const QUIET: Hit = Hit { at: 0, flips: 0 };
+
+const COMMAND_HIT: Hit = Hit { at: 3, flips: 0x01 };
 
 fn mask(hit: Hit) -> [u8; 132] {
     let at = hit.at % 132;
@@ -34,134 +37,111 @@ fn mask(hit: Hit) -> [u8; 132] {
     all
 }
 
-fn place(rt: &impl Print, hit: Hit) -> io::Result<()> {
-    say::decimal(rt, hit.at as u64)?;
-    say::text(rt, b":")?;
-    say::hex(rt, hit.flips as u32, 2)
+impl fmt::Display for Hit {
+    fn fmt<W: fmt::Write>(&self, f: &mut fmt::Formatter<W>) -> fmt::Result {
+        write!(f, "{}:{}", self.at, Hex(self.flips.into(), 2))
+    }
 }
 
-fn ask(rt: &impl Print, n: u32, code: u32, forth: Hit, back: Hit) -> io::Result<()> {
-    say::command(rt, n, code)?;
-    place(rt, forth)?;
-    say::text(rt, b" ")?;
-    place(rt, back)?;
-    say::text(rt, b" : ")
-}
-
-fn answer(
-    rt: &impl Print,
-    carried: link::Carried,
-    read: &[u8; 96],
-    marks: &[u8; 16],
-) -> io::Result<()> {
-    say::decimal(rt, carried.made as u64)?;
-    say::text(rt, b" ")?;
-    say::decimal(rt, carried.number as u64)?;
-    say::text(rt, b" ")?;
-    say::hex(rt, carried.word as u32, 4)?;
-    say::text(rt, b" ")?;
-    say::decimal(rt, carried.asked as u64)?;
-    say::text(rt, b" ")?;
-    say::bytes(rt, read)?;
-    say::text(rt, b" ")?;
-    say::bytes(rt, marks)?;
-    say::line(rt)
-}
-
-// One frame with its noise. The bytes and marks lent to the reader are 0xAA before.
-fn frame(
-    rt: &impl Print,
+// The devices that the frames go to.
+#[derive(Drop)]
+struct Chain<'a> {
     n: u32,
-    code: u32,
-    bytes: &[u8],
-    forth: Hit,
-    back: Hit,
-    state: &mut [u8],
-) -> io::Result<()> {
-    let mut out = [0u8; 132];
-    let mut reply = [0u8; 132];
-    let mut read = [0xAAu8; 96];
-    let mut marks = [0xAAu8; 16];
-    ask(rt, n, code, forth, back)?;
-    let carried = link::carry(
-        n,
-        code,
-        bytes,
-        &mask(forth),
-        &mask(back),
-        &mut out,
-        state,
-        &mut reply,
-        &mut read,
-        &mut marks,
-    );
-    answer(rt, carried, &read, &marks)
+    state: &'a mut [u8],
 }
 
-fn command_hit() -> Hit {
-    Hit { at: 3, flips: 0x01 }
-}
+impl<'a> Chain<'a> {
+    fn new(n: u32, state: &'a mut [u8]) -> Self {
+        Chain { n, state }
+    }
 
-// A frame that is hit on its way out, and a quiet read of what it left.
-fn frame_and_read(
-    rt: &impl Print,
-    n: u32,
-    code: u32,
-    bytes: &[u8],
-    forth: Hit,
-    read_code: u32,
-    state: &mut [u8],
-) -> io::Result<()> {
-    frame(rt, n, code, bytes, forth, quiet(), state)?;
-    frame(rt, n, read_code, b"", quiet(), quiet(), state)
-}
+    // One frame with its noise. The bytes and marks lent to the reader are 0xAA before.
+    fn frame(
+        &mut self,
+        rt: &impl Print,
+        code: u32,
+        bytes: &[u8],
+        forth: Hit,
+        back: Hit,
+    ) -> io::Result<()> {
+        let n = self.n;
+        let mut out = [0u8; 132];
+        let mut reply = [0u8; 132];
+        let mut read = [0xAAu8; 96];
+        let mut marks = [0xAAu8; 16];
+        let carried = link::carry(
+            n,
+            code,
+            bytes,
+            &mask(forth),
+            &mask(back),
+            &mut out,
+            self.state,
+            &mut reply,
+            &mut read,
+            &mut marks,
+        );
+        let heard = Heard::from(carried.heard);
+        println!(rt;
+            "{n} {} {forth} {back} : {} {} {} {} {} {}",
+            Hex(code, 3),
+            refusal::number(carried.made),
+            heard.number,
+            Hex(heard.word.into(), 4),
+            refusal::number(carried.asked),
+            Bytes(&read),
+            Bytes(&marks),
+        )
+    }
 
-// `old` is written, and then `new`, once with the command hit and once with the group of the far device.
-fn write_under_noise(
-    rt: &impl Print,
-    n: u32,
-    old: &[u8],
-    new: &[u8],
-    state: &mut [u8],
-) -> io::Result<()> {
-    let far_group = Hit { at: 4, flips: 0x80 };
-    frame_and_read(rt, n, WRCFGA, old, quiet(), RDCFGA, state)?;
-    frame_and_read(rt, n, WRCFGA, new, command_hit(), RDCFGA, state)?;
-    frame_and_read(rt, n, WRCFGA, new, far_group, RDCFGA, state)
-}
+    // A frame that is hit on its way out, and a quiet read of what it left.
+    fn frame_and_read(
+        &mut self,
+        rt: &impl Print,
+        code: u32,
+        bytes: &[u8],
+        forth: Hit,
+        read_code: u32,
+    ) -> io::Result<()> {
+        self.frame(rt, code, bytes, forth, QUIET)?;
+        self.frame(rt, read_code, b"", QUIET, QUIET)
+    }
 
-// The answer of the near device is hit, and then the command, so that no device answers.
-fn read_under_noise(rt: &impl Print, n: u32, state: &mut [u8]) -> io::Result<()> {
-    let near_answer = Hit { at: 4, flips: 0x40 };
-    frame(rt, n, RDCFGA, b"", quiet(), near_answer, state)?;
-    frame(rt, n, RDCFGA, b"", command_hit(), quiet(), state)
-}
+    // `old` is written, and then `new`, once with the command hit and once with the group of the far device.
+    fn write_under_noise(&mut self, rt: &impl Print, old: &[u8], new: &[u8]) -> io::Result<()> {
+        let far_group = Hit { at: 4, flips: 0x80 };
+        self.frame_and_read(rt, WRCFGA, old, QUIET, RDCFGA)?;
+        self.frame_and_read(rt, WRCFGA, new, COMMAND_HIT, RDCFGA)?;
+        self.frame_and_read(rt, WRCFGA, new, far_group, RDCFGA)
+    }
 
-fn clear_under_noise(rt: &impl Print, n: u32, state: &mut [u8]) -> io::Result<()> {
-    frame_and_read(rt, n, CLRCELL, b"", command_hit(), RDCVA, state)?;
-    frame_and_read(rt, n, CLRCELL, b"", quiet(), RDCVA, state)
-}
+    // The answer of the near device is hit, and then the command, so that no device answers.
+    fn read_under_noise(&mut self, rt: &impl Print) -> io::Result<()> {
+        let near_answer = Hit { at: 4, flips: 0x40 };
+        self.frame(rt, RDCFGA, b"", QUIET, near_answer)?;
+        self.frame(rt, RDCFGA, b"", COMMAND_HIT, QUIET)
+    }
 
-// The registers stay, whether it is heard or not.
-fn conversion_under_noise(rt: &impl Print, n: u32, state: &mut [u8]) -> io::Result<()> {
-    frame_and_read(rt, n, ADCV, b"", command_hit(), RDCVA, state)?;
-    frame_and_read(rt, n, ADCV, b"", quiet(), RDCVA, state)
-}
+    // A command without data, unheard and heard, and what the cell registers show then.
+    fn command_under_noise(&mut self, rt: &impl Print, code: u32) -> io::Result<()> {
+        self.frame_and_read(rt, code, b"", COMMAND_HIT, RDCVA)?;
+        self.frame_and_read(rt, code, b"", QUIET, RDCVA)
+    }
 
-fn show(rt: &impl Print, n: u32, old: &[u8], new: &[u8], state: &mut [u8]) -> io::Result<()> {
-    write_under_noise(rt, n, old, new, state)?;
-    read_under_noise(rt, n, state)?;
-    conversion_under_noise(rt, n, state)?;
-    clear_under_noise(rt, n, state)
+    // The registers stay at a conversion, whether it is heard or not.
+    fn show(&mut self, rt: &impl Print, old: &[u8], new: &[u8]) -> io::Result<()> {
+        self.write_under_noise(rt, old, new)?;
+        self.read_under_noise(rt)?;
+        self.command_under_noise(rt, ADCV)?;
+        self.command_under_noise(rt, CLRCELL)
+    }
 }
 
 // Bytes that count up from `first`.
 fn count_up(first: u8) -> [u8; 96] {
     let mut bytes = [0u8; 96];
-    let mut i: usize = 0;
-    while i < 96 {
-        bytes[i] = ((i + first as usize) % 256) as u8;
-        i += 1;
+    for i in 0..96 {
+        bytes[i] = first.wrapping_add(i as u8);
     }
     bytes
 }
@@ -169,10 +149,8 @@ fn count_up(first: u8) -> [u8; 96] {
 // Sixteen devices whose registers are full of 7 and whose pins are 1 and 0 in turn.
 fn devices() -> [u8; 1744] {
     let mut state = [7u8; 1744];
-    let mut k: usize = 0;
-    while k < 16 {
+    for k in 0..16 {
         state[109 * k + 108] = ((k + 1) % 2) as u8;
-        k += 1;
     }
     state
 }
@@ -183,7 +161,7 @@ fn main(rt: HostRuntime) -> io::Result<()> {
     let mut one = devices();
     let mut two = devices();
     let mut sixteen = devices();
-    show(&rt, 1, &old[0..6], &new[0..6], &mut one[0..109])?;
-    show(&rt, 2, &old[0..12], &new[0..12], &mut two[0..218])?;
-    show(&rt, 16, &old, &new, &mut sixteen)
+    Chain::new(1, &mut one[0..109]).show(&rt, &old[0..6], &new[0..6])?;
+    Chain::new(2, &mut two[0..218]).show(&rt, &old[0..12], &new[0..12])?;
+    Chain::new(16, &mut sixteen).show(&rt, &old, &new)
 }

@@ -1,2 +1,3 @@
--- What a digit is; of what is printed nothing can be promised. Assumes nothing.
+-- What a digit is, and what is printed of bytes and of a number. Assumes nothing.
 pub mod Digits
+pub mod Text

@@ -1,22 +1,11 @@
-// What the lines are made of: text, decimal numbers, upper-case hexadecimal as the data sheets print it.
+// What the lines are made of: upper-case hexadecimal as the data sheets print it.
 #![tactic(auto)]
 
-ghost use Rattle.std.specs.Prelude.{◌≡◌, ◌%◌, get_or};
+ghost use Rattle.std.specs.Prelude.{◌≡◌, ◌%◌, get_or, Some};
 ghost use Rattle.say.specs.Digits.{digits};
+ghost use Rattle.say.specs.Text.{bytes_text, hex_text};
 
-use std::io;
-
-pub fn text(rt: &impl Print, words: &[u8]) -> io::Result<()> {
-    rt.write_all(words)
-}
-
-pub fn line(rt: &impl Print) -> io::Result<()> {
-    text(rt, b"\n")
-}
-
-pub fn decimal(rt: &impl Print, number: u64) -> io::Result<()> {
-    rt.print(number)
-}
+use std::fmt;
 
 #[tactic(auto, using(crate::proofs::DigitLaws::figure, crate::proofs::DigitLaws::letter))]
 fn digit(value: u8) -> u8
@@ -26,38 +15,40 @@ fn digit(value: u8) -> u8
     if low < 10 { 48 + low } else { 55 + low }
 }
 
-// At least `width` digits.
-pub fn hex(rt: &impl Print, number: u32, width: usize) -> io::Result<()> {
-    let mut digits = [0u8; 8];
-    let mut rest = number;
-    let mut at: usize = 8;
-    while 0 < at {
-        if rest == 0 && width <= 8 - at {
-            return text(rt, &digits[at..8]);
+// Bytes, two digits each, and a dash where there are none.
+#[derive(Clone, Copy)]
+pub struct Bytes<'a>(pub &'a [u8]);
+
+impl fmt::Display for Bytes<'_> {
+    ghost output = { λ bytes. Some (bytes_text bytes.0.now) };
+
+    fn fmt<W: fmt::Write>(&self, f: &mut fmt::Formatter<W>) -> fmt::Result {
+        if self.0.is_empty() {
+            return f.write_str("-");
         }
-        at -= 1;
-        digits[at] = digit((rest % 16) as u8);
-        rest /= 16;
+        for byte in self.0 {
+            f.write_char(digit(byte / 16) as char)?;
+            f.write_char(digit(*byte) as char)?;
+        }
+        Ok(())
     }
-    text(rt, &digits)
 }
 
-pub fn bytes(rt: &impl Print, list: &[u8]) -> io::Result<()> {
-    if list.len() == 0 {
-        text(rt, b"-")?;
-    }
-    let mut i = 0;
-    while i < list.len() {
-        text(rt, &[digit(list[i] / 16), digit(list[i])])?;
-        i += 1;
-    }
-    Ok(())
-}
+// A number, and how many digits it has at least.
+#[derive(Clone, Copy)]
+pub struct Hex(pub u32, pub usize);
 
-// A command for n devices, and a space.
-pub fn command(rt: &impl Print, n: u32, code: u32) -> io::Result<()> {
-    decimal(rt, n as u64)?;
-    text(rt, b" ")?;
-    hex(rt, code, 3)?;
-    text(rt, b" ")
+impl fmt::Display for Hex {
+    ghost output = { λ hex. Some (hex_text hex.0 hex.1) };
+
+    fn fmt<W: fmt::Write>(&self, f: &mut fmt::Formatter<W>) -> fmt::Result {
+        let Hex(number, width) = *self;
+        for place in (0..8).rev() {
+            let rest = number >> (4 * place);
+            if rest != 0 || place < width {
+                f.write_char(digit((rest % 16) as u8) as char)?;
+            }
+        }
+        Ok(())
+    }
 }

@@ -1,34 +1,33 @@
 // The cell reading: the word of the valid cells, that of the cells not measured, and eighteen counts.
-use std::io;
+use cells::Readings;
+use say::{Bytes, Hex};
+use std::{fmt, io};
 
-fn counts(rt: &impl Print, all: [u16; 18]) -> io::Result<()> {
-    let mut cell: usize = 0;
-    while cell < 18 {
-        if 0 < cell {
-            say::text(rt, b",")?;
+#[derive(Clone, Copy)]
+struct Counts([u16; 18]);
+
+impl fmt::Display for Counts {
+    fn fmt<W: fmt::Write>(&self, f: &mut fmt::Formatter<W>) -> fmt::Result {
+        let mut comma = "";
+        for count in &self.0 {
+            write!(f, "{comma}{count}")?;
+            comma = ",";
         }
-        say::decimal(rt, all[cell] as u64)?;
-        cell += 1;
+        Ok(())
     }
-    Ok(())
 }
 
 fn case(rt: &impl Print, groups: &[u8], marks: &[u8]) -> io::Result<()> {
-    let readings = cells::reading(groups, marks);
-    let all = readings.counts;
-    say::text(rt, b"cells ")?;
-    say::bytes(rt, groups)?;
-    say::text(rt, b" ")?;
-    say::bytes(rt, marks)?;
-    say::text(rt, b" : ")?;
-    say::decimal(rt, readings.number as u64)?;
-    say::text(rt, b" ")?;
-    say::hex(rt, readings.valid, 6)?;
-    say::text(rt, b" ")?;
-    say::hex(rt, readings.unmeasured, 6)?;
-    say::text(rt, b" ")?;
-    counts(rt, all)?;
-    say::line(rt)
+    let readings = Readings::from(cells::reading(groups, marks));
+    println!(rt;
+        "cells {} {} : {} {} {} {}",
+        Bytes(groups),
+        Bytes(marks),
+        readings.number,
+        Hex(readings.valid, 6),
+        Hex(readings.unmeasured, 6),
+        Counts(readings.counts),
+    )
 }
 
 fn measured(rt: &impl Print) -> io::Result<()> {
@@ -102,7 +101,7 @@ fn refused(rt: &impl Print) -> io::Result<()> {
 }
 
 pub fn show(rt: &impl Print) -> io::Result<()> {
-    say::text(rt, b"# cells\n")?;
+    println!(rt; "# cells")?;
     measured(rt)?;
     cleared(rt)?;
     refused(rt)

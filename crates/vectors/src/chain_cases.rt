@@ -1,148 +1,61 @@
 // The chain: each case lends a state of which byte j is (7j + 1) mod 251, but for the pins, which are given, and a reply of bytes 0xAA, and shows the groups
 // and pins that changed and the whole reply. So bit 1 of CFGA's first byte is 0 as device 1 stores it, 1 as device 2 does, and so on.
-ghost use Rattle.std.specs.Prelude.{◌+◌, ◌≤◌, ◌<◌, length};
+ghost use Rattle.std.specs.Prelude.{◌≤◌, length};
 
-use std::io;
+use chain::Heard;
+use say::{Bytes, Hex};
+use std::{fmt, io};
 
-fn before(pins: &[u8], j: usize) -> u8
-    requires { j ≤ 1853 }
-{
-    let device = j / 109;
-    if j % 109 == 108 && device < pins.len() {
-        pins[device]
-    } else {
-        ((7 * j + 1) % 251) as u8
+// The state of as many as seventeen devices.
+fn prepared(pins: &[u8]) -> [u8; 1853] {
+    let mut state = [0u8; 1853];
+    for j in 0..1853 {
+        state[j] = ((7 * j + 1) % 251) as u8;
     }
+    for (device, pin) in state.chunks_exact_mut(109).zip(pins) {
+        device[108] = *pin;
+    }
+    state
 }
 
-fn prepare(pins: &[u8], state: &mut [u8])
-    requires { length state.old ≤ 1853 }
-{
-    let mut j = 0;
-    while j < state.len() {
-        state[j] = before(pins, j);
-        j += 1;
-    }
+// The groups and pins of a state that are not what they were: the pin of a device is behind its eighteen groups.
+#[derive(Clone, Copy)]
+struct Changes<'a> {
+    old: &'a [u8],
+    new: &'a [u8],
 }
 
-// Whether the bytes from `at` to `end` are not what they were.
-fn differs(state: &[u8], pins: &[u8], at: usize, end: usize) -> bool
-    requires { (at ≤ end) × (end ≤ length state.now) × (length state.now ≤ 1853) }
-{
-    let mut j = at;
-    while j < end {
-        if state[j] != before(pins, j) {
-            return true;
-        }
-        j += 1;
-    }
-    false
-}
-
-// Where the group or the pin that starts at `at` ends.
-fn end_of(at: usize, length: usize) -> usize
-    requires { (at < length) × (length ≤ 1853) }
-    ensures { (at < result) × (result ≤ length) }
-{
-    if at % 109 == 108 {
-        return at + 1;
-    }
-    if length < at + 6 {
-        return length;
-    }
-    at + 6
-}
-
-fn place(rt: &impl Print, at: usize) -> io::Result<()>
-    requires { at ≤ 1853 }
-{
-    say::decimal(rt, (at / 109 + 1) as u64)?;
-    say::text(rt, b".")?;
-    if at % 109 == 108 {
-        say::text(rt, b"pin")?;
-    } else {
-        say::decimal(rt, (at % 109 / 6) as u64)?;
-    }
-    say::text(rt, b"=")
-}
-
-fn changed(rt: &impl Print, state: &[u8], pins: &[u8]) -> io::Result<()>
-    requires { length state.now ≤ 1853 }
-{
-    let mut none = true;
-    let mut at = 0;
-    while at < state.len() {
-        let end = end_of(at, state.len());
-        if differs(state, pins, at, end) {
-            if !none {
-                say::text(rt, b",")?;
+impl fmt::Display for Changes<'_> {
+    fn fmt<W: fmt::Write>(&self, f: &mut fmt::Formatter<W>) -> fmt::Result {
+        let mut none = true;
+        let devices = self.old.chunks(109).zip(self.new.chunks(109));
+        for (device, (old, new)) in devices.enumerate() {
+            for (group, (before, after)) in old.chunks(6).zip(new.chunks(6)).enumerate() {
+                if before != after {
+                    if !none {
+                        f.write_str(",")?;
+                    }
+                    none = false;
+                    write!(f, "{}.{}={}", device + 1, Place(group), Bytes(after))?;
+                }
             }
-            place(rt, at)?;
-            say::bytes(rt, &state[at..end])?;
-            none = false;
         }
-        at = end;
+        if none { f.write_str("-") } else { Ok(()) }
     }
-    if none {
-        say::text(rt, b"-")?;
+}
+
+// A group by its number, or the pin.
+#[derive(Clone, Copy)]
+struct Place(usize);
+
+impl fmt::Display for Place {
+    fn fmt<W: fmt::Write>(&self, f: &mut fmt::Formatter<W>) -> fmt::Result {
+        if self.0 == 18 {
+            f.write_str("pin")
+        } else {
+            write!(f, "{}", self.0)
+        }
     }
-    Ok(())
-}
-
-fn ask(
-    rt: &impl Print,
-    n: u32,
-    frame: &[u8],
-    registers: usize,
-    pins: &[u8],
-    room: usize,
-) -> io::Result<()> {
-    say::text(rt, b"chain ")?;
-    say::decimal(rt, n as u64)?;
-    say::text(rt, b" ")?;
-    say::bytes(rt, frame)?;
-    say::text(rt, b" ")?;
-    say::decimal(rt, registers as u64)?;
-    say::text(rt, b" ")?;
-    say::bytes(rt, pins)?;
-    say::text(rt, b" ")?;
-    say::decimal(rt, room as u64)?;
-    say::text(rt, b" : ")
-}
-
-fn answer(
-    rt: &impl Print,
-    heard: chain::Heard,
-    state: &[u8],
-    pins: &[u8],
-    reply: &[u8],
-) -> io::Result<()>
-    requires { length state.now ≤ 1853 }
-{
-    say::decimal(rt, heard.number as u64)?;
-    say::text(rt, b" ")?;
-    say::hex(rt, heard.word as u32, 4)?;
-    say::text(rt, b" ")?;
-    changed(rt, state, pins)?;
-    say::text(rt, b" ")?;
-    say::bytes(rt, reply)?;
-    say::line(rt)
-}
-
-fn run(
-    rt: &impl Print,
-    n: u32,
-    frame: &[u8],
-    pins: &[u8],
-    state: &mut [u8],
-    reply: &mut [u8],
-) -> io::Result<()>
-    requires { length state.old ≤ 1853 }
-{
-    ask(rt, n, frame, state.len(), pins, reply.len())?;
-    prepare(pins, state);
-    let heard = chain::serve(n, frame, state, reply);
-    answer(rt, heard, state, pins, reply)
 }
 
 fn case(
@@ -155,15 +68,23 @@ fn case(
 ) -> io::Result<()>
     requires { (registers ≤ 1853) × (room ≤ 210) }
 {
-    let mut state = [0u8; 1853];
-    let mut reply = [0xAAu8; 210];
-    run(
-        rt,
-        n,
-        frame,
-        pins,
-        &mut state[0..registers],
-        &mut reply[0..room],
+    let old = prepared(pins);
+    let mut all = old;
+    let mut replies = [0xAAu8; 210];
+    let state = &mut all[..registers];
+    let reply = &mut replies[..room];
+    let heard = Heard::from(chain::serve(n, frame, state, reply));
+    println!(rt;
+        "chain {n} {} {registers} {} {room} : {} {} {} {}",
+        Bytes(frame),
+        Bytes(pins),
+        heard.number,
+        Hex(heard.word.into(), 4),
+        Changes {
+            old: &old[..registers],
+            new: state
+        },
+        Bytes(reply),
     )
 }
 
@@ -404,7 +325,7 @@ fn refused_pins(rt: &impl Print) -> io::Result<()> {
 }
 
 pub fn show(rt: &impl Print) -> io::Result<()> {
-    say::text(rt, b"# chain\n")?;
+    println!(rt; "# chain")?;
     writes(rt)?;
     reads_and_clears(rt)?;
     refusals(rt)?;

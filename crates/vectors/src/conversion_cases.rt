@@ -1,65 +1,47 @@
 // The conversion commands by their names in document 002: built at the edges of their fields, taken apart, and sent; and codes near by, which are unknown.
-ghost use Rattle.std.specs.Prelude.{◌≤◌, ◌<◌};
+ghost use Rattle.std.specs.Prelude.{◌≤◌};
 
+use chain::Heard;
+use conversions::{Code, Conversion, Fields, Parts};
+use lent::refusal;
+use say::Hex;
 use std::io;
 
-fn name(rt: &impl Print, command: u32) -> io::Result<()> {
-    if command == 0 {
-        say::text(rt, b"ADCV")
-    } else if command == 1 {
-        say::text(rt, b"ADOW")
-    } else if command == 2 {
-        say::text(rt, b"CVST")
-    } else if command == 3 {
-        say::text(rt, b"ADOL")
-    } else if command == 4 {
-        say::text(rt, b"ADAX")
-    } else if command == 5 {
-        say::text(rt, b"ADAXD")
-    } else if command == 6 {
-        say::text(rt, b"AXOW")
-    } else if command == 7 {
-        say::text(rt, b"AXST")
-    } else if command == 8 {
-        say::text(rt, b"ADSTAT")
-    } else if command == 9 {
-        say::text(rt, b"ADSTATD")
-    } else if command == 10 {
-        say::text(rt, b"STATST")
-    } else if command == 11 {
-        say::text(rt, b"ADCVAX")
-    } else {
-        say::text(rt, b"ADCVSC")
-    }
-}
+// By the numbers of the commands.
+const NAMES: [&str; 13] = [
+    "ADCV", "ADOW", "CVST", "ADOL", "ADAX", "ADAXD", "AXOW", "AXST", "ADSTAT", "ADSTATD", "STATST",
+    "ADCVAX", "ADCVSC",
+];
 
-fn fields(rt: &impl Print, mode: u32, discharge: u32, pull_up: u32, choice: u32) -> io::Result<()> {
-    say::text(rt, b" ")?;
-    say::decimal(rt, mode as u64)?;
-    say::text(rt, b" ")?;
-    say::decimal(rt, discharge as u64)?;
-    say::text(rt, b" ")?;
-    say::decimal(rt, pull_up as u64)?;
-    say::text(rt, b" ")?;
-    say::decimal(rt, choice as u64)
-}
+// Codes of a field out of its range, of the table of 26, above eleven bits, and of every other command of 002's Table 36.
+const UNKNOWN: [u32; 20] = [
+    0x267, 0x407, 0x40F, 0x207, 0x22F, 0x46D, 0x417, 0x001, 0x711, 0xA60, 0x10260, 4294967295,
+    0x715, 0x714, 0x019, 0x018, 0x713, 0x723, 0x028, 0x029,
+];
 
+// Two conversions, a choice out of its range, and every other command of Table 36.
+const SENT: [u16; 11] = [
+    0x360, 0x5FF, 0x267, 0x715, 0x714, 0x019, 0x018, 0x713, 0x723, 0x028, 0x029,
+];
+
+#[tactic(auto, using(crate::proofs::Names::named))]
 fn apart(rt: &impl Print, code: u32) -> io::Result<()> {
     let taken = conversions::conversion_of(code);
-    say::text(rt, b"apart ")?;
-    say::hex(rt, code, 3)?;
-    say::text(rt, b" : ")?;
-    say::decimal(rt, taken.number as u64)?;
-    say::text(rt, b" ")?;
-    say::decimal(rt, taken.command as u64)?;
-    say::text(rt, b" ")?;
-    if taken.number == 0 {
-        name(rt, taken.command)?;
-    } else {
-        say::text(rt, b"-")?;
-    }
-    fields(rt, taken.mode, taken.discharge, taken.pull_up, taken.choice)?;
-    say::line(rt)
+    let name = match taken {
+        Ok(parts) => NAMES[parts.command as usize],
+        Err(_) => "-",
+    };
+    let flat = Conversion::from(taken);
+    println!(rt;
+        "apart {} : {} {} {name} {} {} {} {}",
+        Hex(code, 3),
+        flat.number,
+        flat.command,
+        flat.mode,
+        flat.discharge,
+        flat.pull_up,
+        flat.choice,
+    )
 }
 
 fn build(
@@ -70,19 +52,23 @@ fn build(
     pull_up: u32,
     choice: u32,
 ) -> io::Result<()> {
-    let built = conversions::conversion_code(command, mode, discharge, pull_up, choice);
-    say::text(rt, b"build ")?;
-    say::decimal(rt, command as u64)?;
-    fields(rt, mode, discharge, pull_up, choice)?;
-    say::text(rt, b" : ")?;
-    say::decimal(rt, built.number as u64)?;
-    say::text(rt, b" ")?;
-    say::hex(rt, built.code as u32, 3)?;
-    say::line(rt)?;
-    if built.number == 0 {
-        apart(rt, built.code as u32)?;
+    let fields = Fields {
+        mode,
+        discharge,
+        pull_up,
+        choice,
+    };
+    let built = conversions::conversion_code(Parts { command, fields });
+    let flat = Code::from(built);
+    println!(rt;
+        "build {command} {mode} {discharge} {pull_up} {choice} : {} {}",
+        flat.number,
+        Hex(flat.code.into(), 3),
+    )?;
+    match built {
+        Ok(code) => apart(rt, code.into()),
+        Err(_) => Ok(()),
     }
-    Ok(())
 }
 
 // The ends of every field of a command, and each field past its end. Where a field may be 0, what is below it cannot be said.
@@ -124,72 +110,33 @@ fn commands(rt: &impl Print) -> io::Result<()> {
 }
 
 // What writer, chain and reader make of a code: their numbers, and the chain's word.
-fn sent(rt: &impl Print, code: u32) -> io::Result<()>
-    requires { code < 65536 }
-{
-    let table = pec::table();
+fn sent(rt: &impl Print, short: u16) -> io::Result<()> {
+    let code = u32::from(short);
     let mut frame = [0u8; 4];
     let mut state = [0u8; 109];
     let mut reply = [0u8; 4];
     let written = frames::writer::write(1, code, b"", &mut frame);
-    frames::groups::put_command(&table, code, &mut frame);
-    let heard = chain::serve(1, &frame, &mut state, &mut reply);
-    let number = host::reader::read(1, code, &reply, &mut [0; 6], &mut [0; 1]);
-    say::text(rt, b"sent ")?;
-    say::hex(rt, code, 3)?;
-    say::text(rt, b" : ")?;
-    say::decimal(rt, written.number as u64)?;
-    say::text(rt, b" ")?;
-    say::decimal(rt, heard.number as u64)?;
-    say::text(rt, b" ")?;
-    say::hex(rt, heard.word as u32, 4)?;
-    say::text(rt, b" ")?;
-    say::decimal(rt, number as u64)?;
-    say::line(rt)
-}
-
-// Codes of a field out of its range, of the table of 26, above eleven bits, and of every other command of 002's Table 36.
-fn unknown(rt: &impl Print) -> io::Result<()> {
-    apart(rt, 0x267)?;
-    apart(rt, 0x407)?;
-    apart(rt, 0x40F)?;
-    apart(rt, 0x207)?;
-    apart(rt, 0x22F)?;
-    apart(rt, 0x46D)?;
-    apart(rt, 0x417)?;
-    apart(rt, 0x001)?;
-    apart(rt, 0x711)?;
-    apart(rt, 0xA60)?;
-    apart(rt, 0x10260)?;
-    apart(rt, 4294967295)?;
-    apart(rt, 0x715)?;
-    apart(rt, 0x714)?;
-    apart(rt, 0x019)?;
-    apart(rt, 0x018)?;
-    apart(rt, 0x713)?;
-    apart(rt, 0x723)?;
-    apart(rt, 0x028)?;
-    apart(rt, 0x029)
-}
-
-// Two conversions, a choice out of its range, and every other command of Table 36.
-fn all_sent(rt: &impl Print) -> io::Result<()> {
-    sent(rt, 0x360)?;
-    sent(rt, 0x5FF)?;
-    sent(rt, 0x267)?;
-    sent(rt, 0x715)?;
-    sent(rt, 0x714)?;
-    sent(rt, 0x019)?;
-    sent(rt, 0x018)?;
-    sent(rt, 0x713)?;
-    sent(rt, 0x723)?;
-    sent(rt, 0x028)?;
-    sent(rt, 0x029)
+    frames::groups::put_command(code, &mut frame);
+    let heard = Heard::from(chain::serve(1, &frame, &mut state, &mut reply));
+    let read = host::reader::read(1, code, &reply, &mut [0; 6], &mut [0; 1]);
+    println!(rt;
+        "sent {} : {} {} {} {}",
+        Hex(code, 3),
+        refusal::number(written),
+        heard.number,
+        Hex(heard.word.into(), 4),
+        refusal::number(read),
+    )
 }
 
 pub fn show(rt: &impl Print) -> io::Result<()> {
-    say::text(rt, b"# conversions\n")?;
+    println!(rt; "# conversions")?;
     commands(rt)?;
-    unknown(rt)?;
-    all_sent(rt)
+    for code in UNKNOWN {
+        apart(rt, code)?;
+    }
+    for code in SENT {
+        sent(rt, code)?;
+    }
+    Ok(())
 }

@@ -1,49 +1,37 @@
 // The wire log: what its writer, its reader and its walk answer. The writer is lent an output of `room` bytes 0xAA, which is shown whole afterwards.
 ghost use Rattle.std.specs.Prelude.{◌≤◌, length};
 
+use lent::Written;
+use say::Bytes;
 use std::io;
-
-fn field(rt: &impl Print, number: u64) -> io::Result<()> {
-    say::text(rt, b" ")?;
-    say::decimal(rt, number)
-}
-
-fn run(rt: &impl Print, kind: u32, body: &[u8], out: &mut [u8]) -> io::Result<()> {
-    say::text(rt, b"put")?;
-    field(rt, kind as u64)?;
-    say::text(rt, b" ")?;
-    say::bytes(rt, body)?;
-    field(rt, out.len() as u64)?;
-    say::text(rt, b" :")?;
-    let written = wirelog::put::put(kind, body, out);
-    field(rt, written.number as u64)?;
-    field(rt, written.length as u64)?;
-    say::text(rt, b" ")?;
-    say::bytes(rt, out)?;
-    say::line(rt)
-}
 
 fn put(rt: &impl Print, kind: u32, body: &[u8], room: usize) -> io::Result<()>
     requires { room ≤ 205 }
 {
-    let mut out = [0xAAu8; 205];
-    run(rt, kind, body, &mut out[0..room])
+    let mut all = [0xAAu8; 205];
+    let out = &mut all[..room];
+    let written = Written::from(wirelog::put::put(kind, body, out));
+    println!(rt;
+        "put {kind} {} {room} : {} {} {}",
+        Bytes(body),
+        written.number,
+        written.length,
+        Bytes(out),
+    )
 }
 
 fn at(rt: &impl Print, log: &[u8], place: usize) -> io::Result<()> {
-    say::text(rt, b"at")?;
-    field(rt, place as u64)?;
-    say::text(rt, b" ")?;
-    say::bytes(rt, log)?;
-    say::text(rt, b" :")?;
     let found = wirelog::flat::record_at(log, place);
-    field(rt, found.number as u64)?;
-    field(rt, found.end as u64)?;
-    field(rt, found.kind as u64)?;
-    field(rt, found.body as u64)?;
-    field(rt, found.body_len as u64)?;
-    field(rt, found.next as u64)?;
-    say::line(rt)
+    println!(rt;
+        "at {place} {} : {} {} {} {} {} {}",
+        Bytes(log),
+        found.number,
+        found.end,
+        found.kind,
+        found.body,
+        found.body_len,
+        found.next,
+    )
 }
 
 // A long record: the four bytes of its length and kind laid over the start of the others.
@@ -55,18 +43,18 @@ fn long_at(rt: &impl Print, head: &[u8; 4], log: &mut [u8]) -> io::Result<()>
 }
 
 fn walk(rt: &impl Print, log: &[u8]) -> io::Result<()> {
-    say::text(rt, b"walk ")?;
-    say::bytes(rt, log)?;
-    say::text(rt, b" :")?;
     let walked = wirelog::walk::walk(log);
-    field(rt, walked.number as u64)?;
-    field(rt, walked.at as u64)?;
-    field(rt, walked.sizes as u64)?;
-    field(rt, walked.frames as u64)?;
-    field(rt, walked.replies as u64)?;
-    field(rt, walked.notes as u64)?;
-    field(rt, walked.unknown as u64)?;
-    say::line(rt)
+    println!(rt;
+        "walk {} : {} {} {} {} {} {} {}",
+        Bytes(log),
+        walked.number,
+        walked.at,
+        walked.sizes,
+        walked.frames,
+        walked.replies,
+        walked.notes,
+        walked.unknown,
+    )
 }
 
 fn written(rt: &impl Print) -> io::Result<()> {
@@ -100,15 +88,9 @@ fn not_written(rt: &impl Print) -> io::Result<()> {
 }
 
 fn places(rt: &impl Print, five: &[u8]) -> io::Result<()> {
-    at(rt, five, 0)?;
-    at(rt, five, 5)?;
-    at(rt, five, 13)?;
-    at(rt, five, 19)?;
-    at(rt, five, 27)?;
-    at(rt, five, 33)?;
-    at(rt, five, 34)?;
-    at(rt, five, 18446744073709551615)?;
-    at(rt, five, 1)?;
+    for place in [0, 5, 13, 19, 27, 33, 34, 18446744073709551615, 1] {
+        at(rt, five, place)?;
+    }
     at(rt, b"", 0)?;
     at(rt, b"", 1)
 }
@@ -167,7 +149,7 @@ fn walks(rt: &impl Print, five: &[u8]) -> io::Result<()> {
 }
 
 pub fn show(rt: &impl Print) -> io::Result<()> {
-    say::text(rt, b"# wire log\n")?;
+    println!(rt; "# wire log")?;
     // A chain size, a frame out, a record of unknown kind, a reply and a note, at 0, 5, 13, 19 and 27.
     let five =
         b"\x03\x00\x01\x00\x02\x06\x00\x02\x00\x07\x11\xC9\xC0\x04\x00\x07\x00\xAA\xBB\x06\x00\x03\x00\xFF\xFF\xFF\xFF\x04\x00\x04\x00hi";

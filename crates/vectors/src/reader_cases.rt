@@ -1,32 +1,9 @@
 // The reader: each case lends bytes and marks of 0xAA and shows them whole afterwards.
 ghost use Rattle.std.specs.Prelude.{◌≤◌};
 
+use lent::refusal;
+use say::{Bytes, Hex};
 use std::io;
-
-fn run(
-    rt: &impl Print,
-    n: u32,
-    code: u32,
-    reply: &[u8],
-    bytes: &mut [u8],
-    marks: &mut [u8],
-) -> io::Result<()> {
-    say::text(rt, b"read ")?;
-    say::command(rt, n, code)?;
-    say::bytes(rt, reply)?;
-    say::text(rt, b" ")?;
-    say::decimal(rt, bytes.len() as u64)?;
-    say::text(rt, b" ")?;
-    say::decimal(rt, marks.len() as u64)?;
-    say::text(rt, b" : ")?;
-    let number = host::reader::read(n, code, reply, bytes, marks);
-    say::decimal(rt, number as u64)?;
-    say::text(rt, b" ")?;
-    say::bytes(rt, bytes)?;
-    say::text(rt, b" ")?;
-    say::bytes(rt, marks)?;
-    say::line(rt)
-}
 
 fn case(
     rt: &impl Print,
@@ -38,19 +15,21 @@ fn case(
 ) -> io::Result<()>
     requires { (room ≤ 18) × (places ≤ 3) }
 {
-    let mut bytes = [0xAAu8; 18];
-    let mut marks = [0xAAu8; 3];
-    run(
-        rt,
-        n,
-        code,
-        reply,
-        &mut bytes[0..room],
-        &mut marks[0..places],
+    let mut all_bytes = [0xAAu8; 18];
+    let mut all_marks = [0xAAu8; 3];
+    let bytes = &mut all_bytes[..room];
+    let marks = &mut all_marks[..places];
+    let number = refusal::number(host::reader::read(n, code, reply, bytes, marks));
+    println!(rt;
+        "read {n} {} {} {room} {places} : {number} {} {}",
+        Hex(code, 3),
+        Bytes(reply),
+        Bytes(bytes),
+        Bytes(marks),
     )
 }
 
-fn replies(rt: &impl Print) -> io::Result<()> {
+fn good_replies(rt: &impl Print) -> io::Result<()> {
     case(
         rt,
         1,
@@ -66,7 +45,11 @@ fn replies(rt: &impl Print) -> io::Result<()> {
         b"\x00\x00\x00\x00\x01\x02\x03\x04\x05\x06\x22\xEE\x11\x12\x13\x14\x15\x16\x6D\x58",
         14,
         3,
-    )?;
+    )
+}
+
+// Groups whose check words do not fit, and devices that are not heard.
+fn spoilt_replies(rt: &impl Print) -> io::Result<()> {
     case(
         rt,
         2,
@@ -145,8 +128,9 @@ fn silence(rt: &impl Print) -> io::Result<()> {
 }
 
 pub fn show(rt: &impl Print) -> io::Result<()> {
-    say::text(rt, b"# reader\n")?;
-    replies(rt)?;
+    println!(rt; "# reader")?;
+    good_replies(rt)?;
+    spoilt_replies(rt)?;
     refusals(rt)?;
     silence(rt)
 }

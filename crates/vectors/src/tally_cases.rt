@@ -1,39 +1,44 @@
 // The link tally: four counts before, a reply's marks, and the four counts after.
-use std::io;
+use lent::refusal;
+use say::Bytes;
+use std::{fmt, io};
 use tally::Tally;
 
-fn counts(rt: &impl Print, tally: Tally) -> io::Result<()> {
-    say::decimal(rt, tally.replies as u64)?;
-    say::text(rt, b" ")?;
-    say::decimal(rt, tally.read as u64)?;
-    say::text(rt, b" ")?;
-    say::decimal(rt, tally.wrong as u64)?;
-    say::text(rt, b" ")?;
-    say::decimal(rt, tally.silent as u64)
+#[derive(Clone, Copy)]
+struct Counts(Tally);
+
+impl fmt::Display for Counts {
+    fn fmt<W: fmt::Write>(&self, f: &mut fmt::Formatter<W>) -> fmt::Result {
+        let Tally {
+            replies,
+            read,
+            wrong,
+            silent,
+        } = self.0;
+        write!(f, "{replies} {read} {wrong} {silent}")
+    }
 }
 
-fn case(rt: &impl Print, before: [u32; 4], marks: &[u8]) -> io::Result<()> {
-    let tally = Tally {
-        replies: before[0],
-        read: before[1],
-        wrong: before[2],
-        silent: before[3],
+fn case(rt: &impl Print, counts: [u32; 4], marks: &[u8]) -> io::Result<()> {
+    let [replies, read, wrong, silent] = counts;
+    let before = Tally {
+        replies,
+        read,
+        wrong,
+        silent,
     };
-    let added = tally::add(tally, marks);
-    let after = added.tally;
-    say::text(rt, b"tally ")?;
-    counts(rt, tally)?;
-    say::text(rt, b" ")?;
-    say::bytes(rt, marks)?;
-    say::text(rt, b" : ")?;
-    say::decimal(rt, added.number as u64)?;
-    say::text(rt, b" ")?;
-    counts(rt, after)?;
-    say::line(rt)
+    let added = tally::add(before, marks);
+    println!(rt;
+        "tally {} {} : {} {}",
+        Counts(before),
+        Bytes(marks),
+        refusal::number(added),
+        Counts(added.unwrap_or(before)),
+    )
 }
 
 pub fn show(rt: &impl Print) -> io::Result<()> {
-    say::text(rt, b"# tally\n")?;
+    println!(rt; "# tally")?;
     case(rt, [0, 0, 0, 0], b"\x00\x01\x02\x00")?;
     case(rt, [4294967294, 0, 0, 0], b"\x00")?;
     case(rt, [4294967295, 0, 0, 0], b"\x00")?;

@@ -1,23 +1,14 @@
 // The wake rule, over a clock that runs past its end.
 use std::io;
+use wake::Wake;
 
 fn case(rt: &impl Print, n: u32, last: u32, clock: u32) -> io::Result<()> {
-    let wake = wake::wait(n, last, clock);
-    say::text(rt, b"wake ")?;
-    say::decimal(rt, n as u64)?;
-    say::text(rt, b" ")?;
-    say::decimal(rt, last as u64)?;
-    say::text(rt, b" ")?;
-    say::decimal(rt, clock as u64)?;
-    say::text(rt, b" : ")?;
-    say::decimal(rt, wake.number as u64)?;
-    say::text(rt, b" ")?;
-    say::decimal(rt, wake.wait as u64)?;
-    say::line(rt)
+    let wake = Wake::from(wake::wait(n, last, clock));
+    println!(rt; "wake {n} {last} {clock} : {} {}", wake.number, wake.wait)
 }
 
 pub fn show(rt: &impl Print) -> io::Result<()> {
-    say::text(rt, b"# wake\n")?;
+    println!(rt; "# wake")?;
     case(rt, 16, 4294967000, 4003)?;
     case(rt, 16, 4294967000, 4004)?;
     case(rt, 0, 0, 0)?;

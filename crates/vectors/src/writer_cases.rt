@@ -1,34 +1,28 @@
 // The frame writer: each case lends an output of `room` bytes 0xAA and shows it whole afterwards.
 ghost use Rattle.std.specs.Prelude.{◌≤◌};
 
+use lent::Written;
+use say::{Bytes, Hex};
 use std::io;
-
-fn run(rt: &impl Print, n: u32, code: u32, data: &[u8], out: &mut [u8]) -> io::Result<()> {
-    let room = out.len();
-    let written = frames::writer::write(n, code, data, out);
-    say::text(rt, b"write ")?;
-    say::command(rt, n, code)?;
-    say::bytes(rt, data)?;
-    say::text(rt, b" ")?;
-    say::decimal(rt, room as u64)?;
-    say::text(rt, b" : ")?;
-    say::decimal(rt, written.number as u64)?;
-    say::text(rt, b" ")?;
-    say::decimal(rt, written.length as u64)?;
-    say::text(rt, b" ")?;
-    say::bytes(rt, out)?;
-    say::line(rt)
-}
 
 fn case(rt: &impl Print, n: u32, code: u32, data: &[u8], room: usize) -> io::Result<()>
     requires { room ≤ 132 }
 {
-    let mut out = [0xAAu8; 132];
-    run(rt, n, code, data, &mut out[0..room])
+    let mut all = [0xAAu8; 132];
+    let out = &mut all[..room];
+    let written = Written::from(frames::writer::write(n, code, data, out));
+    println!(rt;
+        "write {n} {} {} {room} : {} {} {}",
+        Hex(code, 3),
+        Bytes(data),
+        written.number,
+        written.length,
+        Bytes(out),
+    )
 }
 
 pub fn show(rt: &impl Print) -> io::Result<()> {
-    say::text(rt, b"# writer\n")?;
+    println!(rt; "# writer")?;
     case(rt, 1, 0x001, b"\x00\x00\x00\x00\x00\x00", 12)?;
     case(rt, 1, 0x001, b"\x00\x00\x00\x00\x00\x00", 16)?;
     case(
