@@ -6,6 +6,18 @@ use chain::Heard;
 use say::{Bytes, Hex};
 use std::{fmt, io};
 
+// Reads of CFGA from one device and from two, and writes of it to two with bit 1 of the first byte set and clear.
+const READ_ONE: &[u8; 12] = b"\x00\x02\x2B\x0A\xFF\xFF\xFF\xFF\xFF\xFF\xFF\xFF";
+
+const READ_TWO: &[u8; 20] =
+    b"\x00\x02\x2B\x0A\xFF\xFF\xFF\xFF\xFF\xFF\xFF\xFF\xFF\xFF\xFF\xFF\xFF\xFF\xFF\xFF";
+
+const WRITE_SET: &[u8; 20] =
+    b"\x00\x01\x3D\x6E\x02\xA2\xA3\xA4\xA5\xA6\x86\x9E\x02\xA2\xA3\xA4\xA5\xA6\x86\x9E";
+
+const WRITE_UNSET: &[u8; 20] =
+    b"\x00\x01\x3D\x6E\xFD\xB2\xB3\xB4\xB5\xB6\xD3\xB4\xFD\xB2\xB3\xB4\xB5\xB6\xD3\xB4";
+
 // The state of as many as seventeen devices.
 fn prepared(pins: &[u8]) -> [u8; 1853] {
     let mut state = [0u8; 1853];
@@ -104,59 +116,80 @@ fn long_case(
     case(rt, n, frame, registers, pins, room)
 }
 
-// One device whose pin is 1, and two whose pins are 1 and 0: none of them is the bit that is stored.
-fn one(rt: &impl Print, frame: &[u8], room: usize) -> io::Result<()>
-    requires { room ≤ 210 }
+// A chain of one device whose pin is 1, or of two whose pins are 1 and 0: none of them is the bit that is stored.
+fn sound(rt: &impl Print, n: u32, frame: &[u8], room: usize) -> io::Result<()>
+    requires { (n ≤ 2) × (room ≤ 210) }
 {
-    case(rt, 1, frame, 109, b"\x01", room)
-}
-
-fn two(rt: &impl Print, frame: &[u8], room: usize) -> io::Result<()>
-    requires { room ≤ 210 }
-{
-    case(rt, 2, frame, 218, b"\x01\x00", room)
+    let devices = n as usize;
+    case(rt, n, frame, 109 * devices, &b"\x01\x00"[..devices], room)
 }
 
 fn writes(rt: &impl Print) -> io::Result<()> {
-    one(rt, b"\x00\x01\x3D\x6E\x00\x00\x00\x00\x00\x00\xC2\x12", 12)?;
-    one(rt, b"\x00\x01\x3D\x6F\x00\x00\x00\x00\x00\x00\xC2\x12", 12)?;
-    one(rt, b"\x00\x00\xB6\x5C\x00\x00\x00\x00\x00\x00\xC2\x12", 12)?;
-    two(
+    sound(
         rt,
+        1,
+        b"\x00\x01\x3D\x6E\x00\x00\x00\x00\x00\x00\xC2\x12",
+        12,
+    )?;
+    sound(
+        rt,
+        1,
+        b"\x00\x01\x3D\x6F\x00\x00\x00\x00\x00\x00\xC2\x12",
+        12,
+    )?;
+    sound(
+        rt,
+        1,
+        b"\x00\x00\xB6\x5C\x00\x00\x00\x00\x00\x00\xC2\x12",
+        12,
+    )?;
+    sound(
+        rt,
+        2,
         b"\x00\x01\x3D\x6E\x11\x12\x13\x14\x15\x16\x6D\x58\x01\x02\x03\x04\x05\x06\x22\xEE",
         20,
     )?;
-    two(
+    sound(
         rt,
+        2,
         b"\x00\x01\x3D\x6E\x11\x12\x13\x14\x15\x16\x6D\x59\x01\x02\x03\x04\x05\x06\x22\xEE",
         22,
     )?;
-    two(
+    sound(
         rt,
+        2,
         b"\x00\x01\x3D\x6E\x11\x12\x13\x14\x15\x16\x6D\x58\x81\x02\x03\x04\x05\x06\x22\xEE",
         20,
     )?;
-    two(
+    sound(
         rt,
+        2,
         b"\x00\x01\x3D\x6E\x11\x12\x13\x14\x15\x16\x6D\x59\x81\x02\x03\x04\x05\x06\x22\xEE",
         20,
     )
 }
 
 fn reads_and_clears(rt: &impl Print) -> io::Result<()> {
-    one(rt, b"\x00\x04\x07\xC2\xFF\xFF\xFF\xFF\xFF\xFF\xFF\xFF", 12)?;
-    two(
+    sound(
         rt,
+        1,
+        b"\x00\x04\x07\xC2\xFF\xFF\xFF\xFF\xFF\xFF\xFF\xFF",
+        12,
+    )?;
+    sound(
+        rt,
+        2,
         b"\x00\x09\xD5\x60\xFF\xFF\xFF\xFF\xFF\xFF\xFF\xFF\xFF\xFF\xFF\xFF\xFF\xFF\xFF\xFF",
         20,
     )?;
-    two(
+    sound(
         rt,
+        2,
         b"\x00\x0A\xC3\x04\x00\x00\x00\x00\x00\x00\x00\x00\x00\x00\x00\x00\x00\x00\x00\x00",
         24,
     )?;
-    two(rt, b"\x07\x11\xC9\xC0", 4)?;
-    one(rt, b"\x07\x12\xDF\xA4", 7)?;
+    sound(rt, 2, b"\x07\x11\xC9\xC0", 4)?;
+    sound(rt, 1, b"\x07\x12\xDF\xA4", 7)?;
     long_case(
         rt,
         16,
@@ -173,15 +206,25 @@ fn refusals(rt: &impl Print) -> io::Result<()> {
     case(rt, 17, b"\x07\x11\xC9\xC0", 1853, &[1; 17], 4)?;
     case(rt, 1, b"\x07\x11\xC9\xC0", 108, b"", 4)?;
     case(rt, 1, b"\x07\x11\xC9\xC0", 110, b"\x01", 4)?;
-    one(rt, b"\x07\x11\xC9\xC0", 3)?;
-    one(rt, b"", 0)?;
-    one(rt, b"\x07\x11\xC9", 5)?;
-    one(rt, b"\x07\x11\xC9\xC0\x00", 8)?;
-    one(rt, b"\x00\x01\x3D\x6E", 4)?;
-    one(rt, b"\x00\x03\xA0\x38", 6)?;
-    one(rt, b"\xF8\x04\x09\x70\xFF\xFF\xFF\xFF\xFF\xFF\xFF\xFF", 12)?;
-    one(rt, b"\x00\x17\x4A\x88", 4)?;
-    one(rt, b"\x00\x20\x00\x00\xA1\xA2\xA3\xA4\xA5\xA6\x5D\x64", 12)?;
+    sound(rt, 1, b"\x07\x11\xC9\xC0", 3)?;
+    sound(rt, 1, b"", 0)?;
+    sound(rt, 1, b"\x07\x11\xC9", 5)?;
+    sound(rt, 1, b"\x07\x11\xC9\xC0\x00", 8)?;
+    sound(rt, 1, b"\x00\x01\x3D\x6E", 4)?;
+    sound(rt, 1, b"\x00\x03\xA0\x38", 6)?;
+    sound(
+        rt,
+        1,
+        b"\xF8\x04\x09\x70\xFF\xFF\xFF\xFF\xFF\xFF\xFF\xFF",
+        12,
+    )?;
+    sound(rt, 1, b"\x00\x17\x4A\x88", 4)?;
+    sound(
+        rt,
+        1,
+        b"\x00\x20\x00\x00\xA1\xA2\xA3\xA4\xA5\xA6\x5D\x64",
+        12,
+    )?;
     long_case(
         rt,
         1,
@@ -202,29 +245,7 @@ fn refusals(rt: &impl Print) -> io::Result<()> {
     )?;
     case(rt, 0, b"\x07\x11\xC9", 108, b"", 0)?;
     case(rt, 1, b"\x07\x11\xC9", 108, b"", 0)?;
-    one(rt, b"\x07\x11\xC9", 0)
-}
-
-fn read_one(rt: &impl Print, pins: &[u8]) -> io::Result<()> {
-    case(
-        rt,
-        1,
-        b"\x00\x02\x2B\x0A\xFF\xFF\xFF\xFF\xFF\xFF\xFF\xFF",
-        109,
-        pins,
-        12,
-    )
-}
-
-fn read_two(rt: &impl Print, pins: &[u8]) -> io::Result<()> {
-    case(
-        rt,
-        2,
-        b"\x00\x02\x2B\x0A\xFF\xFF\xFF\xFF\xFF\xFF\xFF\xFF\xFF\xFF\xFF\xFF\xFF\xFF\xFF\xFF",
-        218,
-        pins,
-        20,
-    )
+    sound(rt, 1, b"\x07\x11\xC9", 0)
 }
 
 // The pins of the others are 1 and 0 in turn.
@@ -243,34 +264,12 @@ fn read_sixteen(rt: &impl Print, last: u8, room: usize) -> io::Result<()>
     )
 }
 
-fn write_set(rt: &impl Print, pins: &[u8]) -> io::Result<()> {
-    case(
-        rt,
-        2,
-        b"\x00\x01\x3D\x6E\x02\xA2\xA3\xA4\xA5\xA6\x86\x9E\x02\xA2\xA3\xA4\xA5\xA6\x86\x9E",
-        218,
-        pins,
-        20,
-    )
-}
-
-fn write_unset(rt: &impl Print, pins: &[u8]) -> io::Result<()> {
-    case(
-        rt,
-        2,
-        b"\x00\x01\x3D\x6E\xFD\xB2\xB3\xB4\xB5\xB6\xD3\xB4\xFD\xB2\xB3\xB4\xB5\xB6\xD3\xB4",
-        218,
-        pins,
-        20,
-    )
-}
-
 // CFGA written with bit 1 set and with bit 1 clear, and read, with each row of pins; and CFGB, where no pin is seen.
 fn pins(rt: &impl Print) -> io::Result<()> {
-    write_set(rt, b"\x00\x01")?;
-    write_set(rt, b"\x01\x00")?;
-    write_unset(rt, b"\x00\x01")?;
-    write_unset(rt, b"\x01\x00")?;
+    case(rt, 2, WRITE_SET, 218, b"\x00\x01", 20)?;
+    case(rt, 2, WRITE_SET, 218, b"\x01\x00", 20)?;
+    case(rt, 2, WRITE_UNSET, 218, b"\x00\x01", 20)?;
+    case(rt, 2, WRITE_UNSET, 218, b"\x01\x00", 20)?;
     case(
         rt,
         2,
@@ -279,14 +278,19 @@ fn pins(rt: &impl Print) -> io::Result<()> {
         b"\x00\x01",
         20,
     )?;
-    read_one(rt, b"\x00")?;
-    read_one(rt, b"\x01")?;
-    read_two(rt, b"\x00\x00")?;
-    read_two(rt, b"\x00\x01")?;
-    read_two(rt, b"\x01\x00")?;
-    read_two(rt, b"\x01\x01")?;
+    case(rt, 1, READ_ONE, 109, b"\x00", 12)?;
+    case(rt, 1, READ_ONE, 109, b"\x01", 12)?;
+    case(rt, 2, READ_TWO, 218, b"\x00\x00", 20)?;
+    case(rt, 2, READ_TWO, 218, b"\x00\x01", 20)?;
+    case(rt, 2, READ_TWO, 218, b"\x01\x00", 20)?;
+    case(rt, 2, READ_TWO, 218, b"\x01\x01", 20)?;
     read_sixteen(rt, 0, 132)?;
-    one(rt, b"\x00\x26\x2C\xC8\xFF\xFF\xFF\xFF\xFF\xFF\xFF\xFF", 12)?;
+    sound(
+        rt,
+        1,
+        b"\x00\x26\x2C\xC8\xFF\xFF\xFF\xFF\xFF\xFF\xFF\xFF",
+        12,
+    )?;
     case(
         rt,
         2,
@@ -299,7 +303,7 @@ fn pins(rt: &impl Print) -> io::Result<()> {
 
 // A pin of 2 or 255 at the first or the last device, with a reply too short and a wrong command too; and the lengths that a state had without its pins.
 fn refused_pins(rt: &impl Print) -> io::Result<()> {
-    read_one(rt, b"\x02")?;
+    case(rt, 1, READ_ONE, 109, b"\x02", 12)?;
     case(
         rt,
         1,
@@ -308,10 +312,10 @@ fn refused_pins(rt: &impl Print) -> io::Result<()> {
         b"\xFF",
         12,
     )?;
-    read_two(rt, b"\x02\x00")?;
-    write_set(rt, b"\xFF\x00")?;
-    write_set(rt, b"\x01\x02")?;
-    read_two(rt, b"\x01\xFF")?;
+    case(rt, 2, READ_TWO, 218, b"\x02\x00", 20)?;
+    case(rt, 2, WRITE_SET, 218, b"\xFF\x00", 20)?;
+    case(rt, 2, WRITE_SET, 218, b"\x01\x02", 20)?;
+    case(rt, 2, READ_TWO, 218, b"\x01\xFF", 20)?;
     read_sixteen(rt, 2, 132)?;
     read_sixteen(rt, 255, 132)?;
     case(rt, 1, b"\x07\x11\xC9\xC0", 109, b"\x02", 3)?;
