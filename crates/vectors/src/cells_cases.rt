@@ -100,7 +100,7 @@ fn refused(rt: &impl Print) -> io::Result<()> {
     case(rt, b"", b"")
 }
 
-pub fn show(rt: &impl Print) -> io::Result<()> {
+pub(crate) fn show(rt: &impl Print) -> io::Result<()> {
     println!(rt; "# cells")?;
     measured(rt)?;
     cleared(rt)?;

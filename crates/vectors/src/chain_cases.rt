@@ -328,7 +328,7 @@ fn refused_pins(rt: &impl Print) -> io::Result<()> {
     case(rt, 16, b"\x07\x11\xC9\xC0", 1728, &[1; 15], 4)
 }
 
-pub fn show(rt: &impl Print) -> io::Result<()> {
+pub(crate) fn show(rt: &impl Print) -> io::Result<()> {
     println!(rt; "# chain")?;
     writes(rt)?;
     reads_and_clears(rt)?;

@@ -70,7 +70,7 @@ fn last_cleared(code: u32) -> Result<usize, Refusal> {
     Ok(last)
 }
 
-pub fn show(rt: &impl Print) -> io::Result<()> {
+pub(crate) fn show(rt: &impl Print) -> io::Result<()> {
     println!(rt; "# commands")?;
     for (short, name) in COMMANDS {
         let code = u32::from(short);

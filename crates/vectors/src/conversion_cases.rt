@@ -129,7 +129,7 @@ fn sent(rt: &impl Print, short: u16) -> io::Result<()> {
     )
 }
 
-pub fn show(rt: &impl Print) -> io::Result<()> {
+pub(crate) fn show(rt: &impl Print) -> io::Result<()> {
     println!(rt; "# conversions")?;
     commands(rt)?;
     for code in UNKNOWN {

@@ -148,7 +148,7 @@ fn walks(rt: &impl Print, five: &[u8]) -> io::Result<()> {
     )
 }
 
-pub fn show(rt: &impl Print) -> io::Result<()> {
+pub(crate) fn show(rt: &impl Print) -> io::Result<()> {
     println!(rt; "# wire log")?;
     // A chain size, a frame out, a record of unknown kind, a reply and a note, at 0, 5, 13, 19 and 27.
     let five =

@@ -127,7 +127,7 @@ fn silence(rt: &impl Print) -> io::Result<()> {
     )
 }
 
-pub fn show(rt: &impl Print) -> io::Result<()> {
+pub(crate) fn show(rt: &impl Print) -> io::Result<()> {
     println!(rt; "# reader")?;
     good_replies(rt)?;
     spoilt_replies(rt)?;

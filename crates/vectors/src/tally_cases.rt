@@ -37,7 +37,7 @@ fn case(rt: &impl Print, counts: [u32; 4], marks: &[u8]) -> io::Result<()> {
     )
 }
 
-pub fn show(rt: &impl Print) -> io::Result<()> {
+pub(crate) fn show(rt: &impl Print) -> io::Result<()> {
     println!(rt; "# tally")?;
     case(rt, [0, 0, 0, 0], b"\x00\x01\x02\x00")?;
     case(rt, [4294967294, 0, 0, 0], b"\x00")?;

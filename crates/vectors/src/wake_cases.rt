@@ -7,7 +7,7 @@ fn case(rt: &impl Print, n: u32, last: u32, clock: u32) -> io::Result<()> {
     println!(rt; "wake {n} {last} {clock} : {} {}", wake.number, wake.wait)
 }
 
-pub fn show(rt: &impl Print) -> io::Result<()> {
+pub(crate) fn show(rt: &impl Print) -> io::Result<()> {
     println!(rt; "# wake")?;
     case(rt, 16, 4294967000, 4003)?;
     case(rt, 16, 4294967000, 4004)?;

@@ -31,7 +31,7 @@ const WORDS: [&[u8]; 26] = [
     b"\x07\x11",
 ];
 
-pub fn show(rt: &impl Print) -> io::Result<()> {
+pub(crate) fn show(rt: &impl Print) -> io::Result<()> {
     println!(rt; "# check words")?;
     for bytes in WORDS {
         println!(rt; "pec {} {}", Bytes(bytes), Hex(pec::pec(bytes).into(), 4))?;

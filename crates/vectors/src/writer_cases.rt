@@ -21,7 +21,7 @@ fn case(rt: &impl Print, n: u32, code: u32, data: &[u8], room: usize) -> io::Res
     )
 }
 
-pub fn show(rt: &impl Print) -> io::Result<()> {
+pub(crate) fn show(rt: &impl Print) -> io::Result<()> {
     println!(rt; "# writer")?;
     case(rt, 1, 0x001, b"\x00\x00\x00\x00\x00\x00", 12)?;
     case(rt, 1, 0x001, b"\x00\x00\x00\x00\x00\x00", 16)?;
