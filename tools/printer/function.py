@@ -9,7 +9,7 @@ proves to be never reached is a jump to itself, which C gives a meaning.
 """
 from printer.constants import constants, operands, target, through
 from printer.mir import NoRule, arms, chain, head, items, simple, statements
-from printer.moves import Moves, flat
+from printer.moves import Moves, flat, inner
 from printer.slices import PARTS, is_slice, names, split
 from printer.types import are_alike, record_name
 
@@ -18,6 +18,7 @@ ARITHMETIC = {"add": "+", "sub": "-", "mul": "*", "div": "/", "rem": "%", "and":
 COMPARISON = {"eq": "==", "ne": "!=", "lt": "<", "le": "<="}
 LOGIC = {"and": "&&", "or": "||", "xor": "!="}
 INDENT = "    "
+SHORT = 11  # statements of a function that is a part of each caller: with it rig.c is smallest on a Cortex-M4, and no slower than with fewer
 
 
 def callee(form):
@@ -50,7 +51,7 @@ class Function:
             self.tables[local] = self.table(self.kinds[local], (numbers,))
         self.stored_in = self.lent_to_write()
         self.body = Moves(self.kinds, self.parameters, types, set(self.tables)).without(self.body)
-        self.live, self.printed, self.matched, self.labels = self.read_somewhere(), set(), {}, 0
+        self.live, self.printed, self.matched, self.labels, self.is_part = self.read_somewhere(), set(), {}, 0, False
 
     def table(self, kind, values):
         return self.all_tables.setdefault((self.types.c(kind), values), f"table{len(self.all_tables)}")
@@ -90,6 +91,11 @@ class Function:
         calls = [form for form in simple(self.body) if head(form) == "call"]
         tables = [callee(form) for form in calls if form[3][1] in self.tables]
         return [callee(form) for form in calls if form[3][1] not in self.tables], tables
+
+    def is_short(self):
+        """Whether it has few statements, and no loop, which a compiler settles best by itself."""
+        loops = any(head(one) == "loop" for form in statements(self.body) for one in inner(form))
+        return not loops and len(list(simple(self.body))) <= SHORT
 
     # ---- places and operands
 
@@ -134,7 +140,16 @@ class Function:
         local, steps = before
         if self.matched.get(self.key(local, steps[:-1])) != variant or field == 0:
             raise NoRule("a part of an enum outside the arm of its variant:", [local, steps])
-        return f"{text}.u.variant{variant}.f{field}"
+        if variant == self.types.joined(enum):
+            return self.untagged(f"{text}.tag", self.types.variants(enum)[variant][0])
+        return f"{text}.u.variant{variant}.f{field}" if self.types.is_united(enum) else f"{text}.f{field}"
+
+    def untagged(self, tag, kind):
+        """What a variant holds that is joined to the tag."""
+        text = f"(uint8_t)({tag} - 1u)"
+        for record in reversed(self.types.way_to_tag(kind)):
+            text = f"({self.types.c(record)}){{{text}}}"
+        return text
 
     def key(self, local, steps):
         """What a match knows an enum by, or None where it is behind an address, or may be stored in by one."""
@@ -146,6 +161,8 @@ class Function:
             return form, "tyBool"
         if head(form) == "copy":
             return self.place(form[1])
+        if head(form) == "made":
+            return self.value(form[2], form[1]), form[1]
         if head(form) == "int":
             return (f"{form[2]}u" if form[2] < 2**32 else f"UINT64_C({form[2]})"), ["tyInt", form[1]]
         raise NoRule("the operand", form)
@@ -210,7 +227,7 @@ class Function:
         if form[0] == "aggregate" and self.types.is_enum(kind):
             return self.variant(items(form[1]), kind)
         if form[0] == "aggregate":
-            inside = ", ".join(text for x in items(form[1]) for text in self.argument(x))
+            inside = self.inside(items(form[1]))
             return f"({self.types.c(kind)}){{{f'{{{inside}}}' if head(kind) == 'tyArray' else inside}}}"
         raise NoRule("the value", form)
 
@@ -223,9 +240,14 @@ class Function:
             raise NoRule("a variant that is made of", forms)
         if self.types.is_tag(kind):
             return f"{tags[0]}u"
-        fields = ", ".join(text for form in forms[1:] for text in self.argument(form))
+        if tags[0] == self.types.joined(kind):
+            way = "".join(f".{self.types.fields(record_name(record))[0][0]}" for record in self.types.way_to_tag(kinds[0]))
+            return f"({self.types.c(kind)}){{.tag = 1u + {self.operand(forms[1])[0]}{way}}}"
+        fields, tag = self.inside(forms[1:]), self.types.tag(kind, tags[0])
+        if fields and not self.types.is_united(kind):
+            return f"({self.types.c(kind)}){{{tag}u, {fields}}}"
         inside = f", .u.variant{tags[0]} = {{{fields}}}" if fields else ""
-        return f"({self.types.c(kind)}){{.tag = {tags[0]}u{inside}}}"
+        return f"({self.types.c(kind)}){{.tag = {tag}u{inside}}}"
 
     def held(self, form):
         """The type of an operand."""
@@ -272,6 +294,15 @@ class Function:
         text, kind = self.operand(form)
         return [f"{text}_{part}" for part in PARTS] if is_slice(kind) else [text]
 
+    def inside(self, forms):
+        """What stands in C for the parts of a record; a part that is made there is no record of its own."""
+        texts = []
+        for form in forms:
+            text = self.argument(form)
+            made = head(form) == "made" and text[0].startswith("(struct")
+            texts += [text[0][text[0].index("{") :]] if made else text
+        return ", ".join(texts)
+
     def lend_static(self, to, kind, form):
         """Static memory that is lent, and so only read."""
         reference, values = self.kinds[to[1]], self.types.static(kind, form)
@@ -295,9 +326,11 @@ class Function:
         self.hold_arms([keys for keys, _ in found], enum)
         lines, ((last, rest),) = [], found[-1:]
         for keys, body in found[:-1]:
-            lines.append(f"{'} else ' if lines else ''}if ({' || '.join(f'{test} == {k}u' for k in keys)}) {{")
+            tests = [self.types.test(enum, test, k) if enum else f"{test} == {k}u" for k in keys]
+            lines.append(f"{'} else ' if lines else ''}if ({' || '.join(tests)}) {{")
             lines += self.arm(key, keys, body, around)
-        note = f"/* {test} is {' or '.join(map(str, last)) or 'none of these'} */"
+        rest_is = ["not 0" if enum and k == self.types.joined(enum) else str(self.types.tag(enum, k) if enum else k) for k in last]
+        note = f"/* {test} is {' or '.join(rest_is) or 'none of these'} */"
         return lines + [f"}} else {{ {note}"] + self.arm(key, last, rest, around) + ["}"]
 
     def tested(self, form):
@@ -346,7 +379,7 @@ class Function:
         self.labels += 1
         return f"{word}{self.labels}"
 
-    def inside(self, body, around):
+    def within(self, body, around):
         """A block's statements; an `exit` that ends it says nothing. Its label stands behind it."""
         forms = reached(body)
         if forms[-1:] == [["exit", 0]]:
@@ -372,7 +405,7 @@ class Function:
         if word == "lendStatic":
             return self.lend_static(*form[1:])
         if word == "block":
-            return self.inside(form[1], around)
+            return self.within(form[1], around)
         if word == "loop":
             return ["for (;;) {"] + self.block(form[1], around + [Level("loop")]) + ["}"]
         if word == "exit":
@@ -391,7 +424,8 @@ class Function:
 
     def prototype(self):
         inside = ", ".join(f"{c}{name}" for local in range(1, self.parameters + 1) for c, name in self.declared(local))
-        return f"static inline {self.types.c(self.kinds[0])} {self.types.functions(self.name)}({inside or 'void'})"
+        word = "PART" if self.is_part else "static inline"
+        return f"{word} {self.types.c(self.kinds[0])} {self.types.functions(self.name)}({inside or 'void'})"
 
     def locals(self):
         """The declarations, a line a type."""

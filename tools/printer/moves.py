@@ -1,9 +1,11 @@
 """Moves from one variable into another, left out where nothing can tell. MIR has many, and each is a word of stack where a C compiler
-is told to do nothing about it.
+is told to do nothing about it, and of a record often a copy where it is told to do much.
 
-A variable that is set once, to what another holds, and is read only in what follows, where the other is not set, is that other. And one
-that is set once, and read only by the next statement, which sets another to it, is that other. Neither is so of a variable whose address
-is taken, nor is a parameter or the result left out. A variable is a local, or one of the two of a slice.
+A variable that is set once, to what another or a part of it holds, and is read only in what follows, where the other is not set, is that
+other. One that is set once, and read only by the next statement, which sets another to it, is that other; and what one is set to that is
+read only by the next statement stands there. One that nothing reads but a move into another, which nothing reads or sets between, is that
+other. None of this is so of a variable whose address is taken, nor is a parameter or the result left out. A variable is a local, or one of
+the two of a slice.
 """
 from collections import Counter
 
@@ -44,8 +46,16 @@ def inner(form):
 
 
 def flat(forms):
-    """Operands, of a pair its two."""
-    return [x for form in forms for x in (form[1:] if head(form) == "slice" else [form])]
+    """Operands, of a pair its two, and of what is made in place its parts."""
+    parts = {"slice": lambda form: form[1:], "made": lambda form: flat(items(form[2][1]))}
+    return [x for form in forms for x in (parts[head(form)](form) if head(form) in parts else [form])]
+
+
+def replaced(form, old, new):
+    """A form with an operand put for another."""
+    if form == old:
+        return new
+    return [replaced(part, old, new) for part in form] if isinstance(form, list) else form
 
 
 class Moves:
@@ -119,6 +129,12 @@ class Moves:
             return False
         return len(steps) == 1 if is_slice(self.kinds[place[1]]) else not steps
 
+    def is_part(self, place):
+        """Whether a place is a part of a variable, and may be put for one."""
+        if place[1] in self.fixed or is_slice(self.kinds[place[1]]) or through(place):
+            return False
+        return not self.types.is_nothing(self.types.at(self.kinds[place[1]], items(place[2])))
+
     def move(self, form):
         """The place that a statement sets to what another holds, and that other; or None."""
         if head(form) != "assign":
@@ -128,7 +144,7 @@ class Moves:
             source = value[1][1]
         elif value[0] == "addrOf" and through(value[1]) and items(value[1][2])[-1][0] == "deref":
             source = ["place", value[1][1], chain(items(value[1][2])[:-1])]
-        if not source or not self.is_whole(to) or not self.is_whole(source):
+        if not source or not self.is_whole(to) or not (self.is_whole(source) or self.is_part(source)):
             return None
         return (to, source) if are_alike(*[self.types.at(self.kinds[place[1]], items(place[2])) for place in (to, source)]) else None
 
@@ -143,14 +159,61 @@ class Moves:
         forms = statements(body)
         for i, form in enumerate(forms):
             found = self.move(form)
-            if found and self.goes(found[0]) and self.stays(*found, forms[i + 1 :]):
-                return body_of(forms[:i] + [self.put(other, *found) for other in forms[i + 1 :]])
-            if found and i > 0 and self.hands_on(forms[i - 1], found[1]):
-                return body_of(forms[: i - 1] + [self.aimed(forms[i - 1], found[0])] + forms[i + 1 :])
-            changed = self.shorter_within(form)
-            if changed:
-                return body_of(forms[:i] + [changed] + forms[i + 1 :])
+            rules = [self.named_alike, self.aimed_at, self.merged] if found else []
+            less = next((less for rule in rules if (less := rule(forms, i, *found))), None) or self.made_in_place(forms, i)
+            changed = None if less else self.shorter_within(form)
+            if less or changed:
+                return body_of(less or forms[:i] + [changed] + forms[i + 1 :])
         return None
+
+    def named_alike(self, forms, i, to, source):
+        """The statements with what a variable is set to here put for it, or None."""
+        if not self.goes(to) or not self.stays(to, source, forms[i + 1 :]):
+            return None
+        return forms[:i] + [self.put(other, to, source) for other in forms[i + 1 :]]
+
+    def aimed_at(self, forms, i, to, source):
+        """The statements of which the one before sets what this one moves into, or None."""
+        if i == 0 or not self.hands_on(forms[i - 1], source):
+            return None
+        return forms[: i - 1] + [self.aimed(forms[i - 1], to)] + forms[i + 1 :]
+
+    def merged(self, forms, i, to, source):
+        """The statements in which all that sets a variable sets what this one moves it into, since nothing else reads it; or None."""
+        if items(to[2]) or items(source[2]) or source[1] <= self.parameters or self.reads[(source[1], None)] != 1:
+            return None
+        one, other = (source[1], None), (to[1], None)
+        first = min((k for k, form in enumerate(forms[:i]) if any(one in self.set(x) for x in inner(form))), default=i)
+        between = [x for form in forms[first:i] for x in inner(form)]
+        leaves = any(head(x) in ("return", "exit", "unreachable") for x in between)
+        meets = any(other in self.set(x) or other in [y for place in self.read(x) for y in self.variables(place)] for x in between)
+        if leaves or meets or sum(one in self.set(x) for x in between) != self.sets[one]:
+            return None
+        return forms[:first] + [self.put(form, source, to) for form in forms[first:i]] + forms[i + 1 :]
+
+    def made_in_place(self, forms, i):
+        """The statements of which the next has what this one sets a variable to in its place, since nothing else reads that; or None."""
+        form, after = forms[i], forms[i + 1] if i + 1 < len(forms) else "skip"
+        if head(form) != "assign" or head(after) not in ("assign", "call") or through(target(after)) or not self.is_whole(form[1]):
+            return None
+        to, value = form[1], form[2]
+        if not self.goes(to) or self.reads[self.variables(to)[0]] != 1 or ["copy", to] not in flat(operands(after)):
+            return None
+        made = self.in_place(value, self.types.at(self.kinds[to[1]], items(to[2])))
+        if made is None or (head(made) == "made" and head(after) == "assign" and after[2][0] != "aggregate"):
+            return None
+        return forms[:i] + [replaced(after, ["copy", to], made)] + forms[i + 2 :]
+
+    def in_place(self, value, kind):
+        """The operand that stands for what a statement sets a variable of this type to, or None."""
+        if value[0] == "aggregate" and head(kind) == "tyNamed":
+            return ["made", kind, value]
+        if value[0] != "rvOpd" or head(value[1]) not in ("int", "copy"):
+            return None
+        place = value[1][1]
+        if head(value[1]) == "copy" and (through(place) or not are_alike(kind, self.types.at(self.kinds[place[1]], items(place[2])))):
+            return None
+        return value[1]
 
     def shorter_within(self, form):
         """A statement with one move less in it, or None."""

@@ -6,7 +6,9 @@ A record that rig.h declares is rig.h's, with its names, if C spells every field
 has a sister for use within, `struct inner_..`, with the same names.
 
 An enum whose variants have no fields is its tag, one byte, as it is in memory; an array has numbers or these, for of their size alone
-C and MIR agree. Any other enum is a record of its tag and a union, in which each variant that has fields is a record. It does not
+C and MIR agree. Any other enum is a record of its tag and the fields of its variants: where more than one has any, a union, in which
+each is a record. Of two variants one may hold nothing but an enum that is its tag, as why a call was refused: then that is joined to
+the tag, which is 0 for the other variant and one more than the enum it holds for this one. A record of an enum does not
 lie in memory as MIR's does, and so does no record with one in it: nothing counts bytes in them. Its tag has 32 bits: of a record of
 three bytes gcc makes bytes on the stack and one read of them, for which a processor waits.
 
@@ -164,12 +166,44 @@ class Types:
             raise NoRule("an enum that rig.h declares,", name)
         if self.is_tag(kind):
             return "uint8_t"
-        inside = []
-        for k, row in enumerate(self.variants(kind)):
-            fields = [f"{c}{part};" for i, field in enumerate(row, 1) for c, part in self.declared(field, f"f{i}")]
-            inside += [f"struct {{ {' '.join(fields)} }} variant{k};"] if fields else []
-        union = [f"union {{ {' '.join(inside)} }} u"] if inside else []
-        return self.define(self.records(name), ["uint32_t tag"] + union, name)
+        rows = self.laid(kind)
+        inside = [f"struct {{ {'; '.join(fields)}; }} variant{k};" for k, fields in enumerate(rows) if fields]
+        fields = [f"union {{ {' '.join(inside)} }} u"] if self.is_united(kind) else [field for fields in rows for field in fields]
+        return self.define(self.records(name), ["uint32_t tag"] + fields, name)
+
+    def laid(self, kind):
+        """The fields of each variant in C; of one that is joined to the tag none."""
+        joined = self.joined(kind)
+        rows = [[] if k == joined else row for k, row in enumerate(self.variants(kind))]
+        return [[f"{c}{part}" for i, field in enumerate(row, 1) for c, part in self.declared(field, f"f{i}")] for row in rows]
+
+    def is_united(self, kind):
+        """Whether the fields of an enum's variants lie in a union."""
+        return sum(bool(fields) for fields in self.laid(kind)) > 1
+
+    def joined(self, kind):
+        """The variant that is joined to the tag, or None."""
+        rows = self.variants(kind)
+        found = [k for k, row in enumerate(rows) if len(row) == 1 and self.way_to_tag(row[0]) is not None]
+        return found[-1] if len(rows) == 2 and found else None
+
+    def way_to_tag(self, kind):
+        """The records from a type down to an enum that is its tag, each the only field of the one before; or None."""
+        if self.is_tag(kind):
+            return []
+        if head(kind) != "tyNamed" or self.is_enum(kind) or len(self.fields(record_name(kind))) != 1:
+            return None
+        below = self.way_to_tag(self.fields(record_name(kind))[0][1])
+        return None if below is None else [kind] + below
+
+    def tag(self, kind, variant):
+        """The tag of a variant that is not joined to it, and of one that is the least."""
+        return variant if self.is_tag(kind) or self.joined(kind) is None else int(variant == self.joined(kind))
+
+    def test(self, kind, text, variant):
+        """Whether a tag is a variant's, in C."""
+        joined = not self.is_tag(kind) and variant == self.joined(kind)
+        return f"{text} != 0u" if joined else f"{text} == {self.tag(kind, variant)}u"
 
     def field_of_variant(self, kind, variant, field):
         """The type of a variant's field; field 0 is the tag."""
