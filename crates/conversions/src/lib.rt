@@ -144,7 +144,8 @@ fn are_within(p: Pattern, f: Fields) -> bool
     f.mode < 4
         && f.discharge <= p.dcp
         && f.pull_up <= p.pup
-        && (p.least..=p.most).contains(&f.choice)
+        && p.least <= f.choice
+        && f.choice <= p.most
 }
 
 #[tactic(auto, unfolding(crate::specs::Conversions::weighed, lent::specs::Refusal::pick))]

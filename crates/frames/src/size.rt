@@ -10,7 +10,7 @@ use lent::refusal::Refusal;
 pub fn outside(n: usize) -> bool
     ensures { result ≡ outside n }
 {
-    !(1..=16).contains(&n)
+    n < 1 || 16 < n
 }
 
 // How many devices are asked for, and never more than a chain has.

@@ -33,11 +33,14 @@ impl From<Result<usize, Refusal>> for Written {
     }
 }
 
-// Every byte of `part` becomes `value`.
+// Every byte of `part` becomes `value`. A loop of its own: of the library's `fill`, which clones the value for each byte but the last, a C compiler makes no block
+// store.
 pub fn fill(part: &mut [u8], value: u8)
     ensures { part.new ≡ replicate (length part.old) value }
 {
-    part.fill(value);
+    for k in 0..part.len() {
+        part[k] = value;
+    }
 }
 
 // A group's six bytes over the start of `part`: all are taken before the first is stored, so that a compiler moves them whole. By `copy_from_slice` rig.c copies

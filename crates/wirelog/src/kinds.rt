@@ -18,7 +18,7 @@ pub const NOTE: u32 = 4;
 pub fn is_known(kind: u32) -> bool
     ensures { result ≡ known kind }
 {
-    (SIZE..=NOTE).contains(&kind)
+    SIZE <= kind && kind <= NOTE
 }
 
 // Whether a body is one byte, 1 to 16.
@@ -27,7 +27,7 @@ fn is_size(body: &[u8]) -> bool
     ensures { result ≡ size_body body.now }
 {
     match *body {
-        [n] => (1..=16).contains(&n),
+        [n] => 1 <= n && n <= 16,
         _ => false,
     }
 }

@@ -33,7 +33,7 @@ fn is_whole(log: &[u8], place: usize) -> bool
         return false;
     }
     let counted = usize::from(lent::low_first(log, place));
-    (2..=left - 2).contains(&counted)
+    2 <= counted && counted <= left - 2
 }
 
 // What stands at a place of a log.
