@@ -440,6 +440,30 @@ static void log_put_job(void) { sink += rig_log_put(RIG_LOG_FRAME, frame_16, 132
 static void log_at_job(void) { sink += rig_log_at(log_136, 136, 0).kind; }
 static void log_walk_job(void) { sink += rig_log_walk(log_136, 136).number; }
 
+/* Of all codes those that may be a conversion's go deepest, and of these not the same one in every build. */
+static uint32_t code_now;
+static uint8_t code_frame[RIG_COMMAND_BYTES];
+static void write_code_job(void) { sink += rig_write(16, code_now, NULL, 0, frame_16, 132).number; }
+static void chain_code_job(void) { sink += rig_chain(16, code_frame, 4, state_16, sizeof state_16, reply_16, 132).word; }
+static void read_code_job(void) { sink += rig_read(16, code_now, reply_16, 132, data_16, 96, marks_16, 16); }
+
+static size_t most_of_codes(void (*job)(void)) {
+    size_t most = 0;
+    for (code_now = 0x200; code_now < 0x700; code_now += 7) {
+        code_frame[0] = (uint8_t)(code_now >> 8), code_frame[1] = (uint8_t)code_now;
+        uint16_t word = rig_pec(code_frame, 2);
+        code_frame[2] = (uint8_t)(word >> 8), code_frame[3] = (uint8_t)word;
+        size_t used = stack_of(job);
+        most = used > most ? used : most;
+    }
+    return most;
+}
+
+static void hold_stack(const char *name, size_t used) {
+    printf("   stack of %-19s %5zu bytes\n", name, used);
+    EXPECT(used < STACK_LIMIT, "stack under 2 KB", used, STACK_LIMIT);
+}
+
 static void test_stack(void) {
     static const struct { const char *name; void (*job)(void); } jobs[] = {
         {"rig_pec", pec_job}, {"rig_write (write)", write_job}, {"rig_chain (write)", chain_write_job},
@@ -452,10 +476,11 @@ static void test_stack(void) {
     plain_frame(16, command_of(RIG_WRCFGA), data_16, write_cfga_16);
     plain_frame(16, command_of(RIG_RDCFGA), NULL, read_cfga_16);
     for (size_t i = 0; i < sizeof jobs / sizeof *jobs; i++) {
-        size_t used = stack_of(jobs[i].job);
-        printf("   stack of %-19s %5zu bytes\n", jobs[i].name, used);
-        EXPECT(used < STACK_LIMIT, "stack under 2 KB", i, used);
+        hold_stack(jobs[i].name, stack_of(jobs[i].job));
     }
+    hold_stack("rig_write (codes)", most_of_codes(write_code_job));
+    hold_stack("rig_chain (codes)", most_of_codes(chain_code_job));
+    hold_stack("rig_read (codes)", most_of_codes(read_code_job));
     EXPECT(tally_16.replies == 2 && tally_16.read == 32, "the jobs did their work", tally_16.replies, tally_16.read);
 }
 
