@@ -4,8 +4,8 @@ is told to do nothing about it, and of a record often a copy where it is told to
 A variable that is set once, to what another or a part of it holds, and is read only in what follows, where the other is not set, is that
 other. One that is set once, and read only by the next statement, which sets another to it, is that other; and what one is set to that is
 read only by the next statement stands there. One that nothing reads but a move into another, which nothing reads or sets between, is that
-other. None of this is so of a variable whose address is taken, nor is a parameter or the result left out. A variable is a local, or one of
-the two of a slice.
+other: MIR reads no variable that was not set on the way, in this turn of a loop as in the first. None of this is so of a variable whose
+address is taken, nor is a parameter or the result left out. A variable is a local, or one of the two of a slice.
 """
 from collections import Counter
 
