@@ -22,10 +22,16 @@ impl From<Mark> for u8 {
 }
 
 // Whether there is a mark above 2.
+#[tactic(auto, unfolding(crate::specs::Marks::any_above))]
 pub fn any_above(marks: &[u8]) -> bool
     ensures { result ≡ any_above marks.now }
 {
-    marks.iter().any(|mark| (Mark::Silent as u8) < *mark)
+    for mark in marks {
+        if (Mark::Silent as u8) < *mark {
+            return true;
+        }
+    }
+    false
 }
 
 // Whether the group was read.
