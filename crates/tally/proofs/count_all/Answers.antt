@@ -1,24 +1,26 @@
--- `tally::count_all`: the groups read, those wrong, and the rest, which are silent as no mark is above 2. Assumes nothing.
-use Rattle.std.proofs.Common.{◌≡◌, arith}
-use Rattle.tally.specs.Tally.{counted}
+-- `tally::count_all`: each mark is counted to its sort; the rest are silent, as no mark is above 2. Assumes nothing.
+use Rattle.std.proofs.Common.{◌≡◌, ℕ, arith}
 use Rattle.host.specs.Marks.{count_of}
-use Rattle.host.specs.Sorts.{mark_number}
-use Rattle.host.proofs.Sorts.{sorts, rest}
+use Rattle.host.proofs.Sorts.{count_none, sorts, rest}
+use Rattle.tally.specs.Tally.{counted}
+use Rattle.tally.proofs.Counting.{count_next}
 use Rattle.tally.proofs.count_all.Goals as goal
 
-pub overflow_sub-result : goal.overflow_sub-result
-unfolding mark_number
-overflow_sub-result c =
-    let read : c.count-read.result ≡ count_of 0 c.args.reply.now = c.count-read.ensures in
-    omega (arith, sorts _ c.requires.1, read)
+pub loop-mark-preserved : goal.loop-mark-preserved
+loop-mark-preserved c =
+    let read = count_next _ _ _ _ c.loop-mark-test.true c.from-read.ensures in
+    let wrong = count_next _ _ _ _ c.loop-mark-test.true c.from-wrong.ensures in
+    (omega (arith, read.0), omega (arith, read.1), omega (arith, wrong.0), omega (arith, wrong.1))
 
 pub overflow_sub-result-2 : goal.overflow_sub-result-2
-unfolding mark_number
 overflow_sub-result-2 c =
-    let read : c.count-read.result ≡ count_of 0 c.args.reply.now = c.count-read.ensures in
-    let wrong : c.count-wrong.result ≡ count_of 1 c.args.reply.now = c.count-wrong.ensures in
-    omega (arith, sorts _ c.requires.1, read, wrong)
+    omega
+    (arith, sorts _ c.requires.1, count_none _ _ 0 c.loop-mark-test.false, count_none _ _ 1 c.loop-mark-test.false)
 
 pub returns : goal.returns
-unfolding counted mark_number
-returns c = rw (c.count-read.ensures, c.count-wrong.ensures, rest _ c.requires.1)
+unfolding counted
+returns c =
+    let none = (λ (sort : ℕ). count_none c.args.reply.now c.loop-mark.mark-index sort c.loop-mark-test.false) in
+    let read : c.loop-mark.read ≡ count_of 0 c.args.reply.now = omega (arith, none 0) in
+    let wrong : c.loop-mark.wrong ≡ count_of 1 c.args.reply.now = omega (arith, none 1) in
+    rw (read, wrong, rest _ c.requires.1)

@@ -4,22 +4,22 @@ use Rattle.tally.specs.Tally.{past_any, plus}
 use Rattle.tally.proofs.Room.{over, held}
 use Rattle.tally.proofs.sum.Goals as goal
 
-pub returns-in_err-checked_add : goal.returns-in_err-checked_add
+pub returns-in_default : goal.returns-in_default
 unfolding past_any plus pick
-returns-in_err-checked_add c = rw c.from_residual.ensures (simp (over _ c.in_err-checked_add.ensures))
+returns-in_default c = simp (over _ c.in_default.ensures)
 
-pub returns-in_err-checked_add-2 : goal.returns-in_err-checked_add-2
+pub returns-in_default-checked_add : goal.returns-in_default-checked_add
 unfolding past_any plus pick
-returns-in_err-checked_add-2 c = rw c.from_residual-in_err-checked_add-2.ensures (simp (held _ c.in_ok-checked_add.ensures.0, over _ c.in_err-checked_add-2.ensures))
+returns-in_default-checked_add c = simp (held _ c.in-Some.ensures.0, over _ c.in_default-checked_add.ensures)
 
-pub returns-in_err-checked_add-3 : goal.returns-in_err-checked_add-3
+pub returns-in_default-checked_add-2 : goal.returns-in_default-checked_add-2
 unfolding past_any plus pick
-returns-in_err-checked_add-3 c = rw c.from_residual-in_err-checked_add-3.ensures (simp (held _ c.in_ok-checked_add.ensures.0, held _ c.in_ok-checked_add-2.ensures.0, over _ c.in_err-checked_add-3.ensures))
+returns-in_default-checked_add-2 c = simp (held _ c.in-Some.ensures.0, held _ c.in-Some-checked_add.ensures.0, over _ c.in_default-checked_add-2.ensures)
 
-pub returns-in_err-checked_add-4 : goal.returns-in_err-checked_add-4
+pub returns-in_default-checked_add-3 : goal.returns-in_default-checked_add-3
 unfolding past_any plus pick
-returns-in_err-checked_add-4 c = rw c.from_residual-in_err-checked_add-4.ensures (simp (held _ c.in_ok-checked_add.ensures.0, held _ c.in_ok-checked_add-2.ensures.0, held _ c.in_ok-checked_add-3.ensures.0, over _ c.in_err-checked_add-4.ensures))
+returns-in_default-checked_add-3 c = simp (held _ c.in-Some.ensures.0, held _ c.in-Some-checked_add.ensures.0, held _ c.in-Some-checked_add-2.ensures.0, over _ c.in_default-checked_add-3.ensures)
 
 pub returns : goal.returns
 unfolding past_any plus pick
-returns c = rw (c.in_ok-checked_add.ensures.1, c.in_ok-checked_add-2.ensures.1, c.in_ok-checked_add-3.ensures.1, c.in_ok-checked_add-4.ensures.1) (simp (held _ c.in_ok-checked_add.ensures.0, held _ c.in_ok-checked_add-2.ensures.0, held _ c.in_ok-checked_add-3.ensures.0, held _ c.in_ok-checked_add-4.ensures.0))
+returns c = rw (c.in-Some.ensures.1, c.in-Some-checked_add.ensures.1, c.in-Some-checked_add-2.ensures.1, c.in-Some-checked_add-3.ensures.1) (simp (held _ c.in-Some.ensures.0, held _ c.in-Some-checked_add.ensures.0, held _ c.in-Some-checked_add-2.ensures.0, held _ c.in-Some-checked_add-3.ensures.0))
